@@ -15,3 +15,5 @@ pub mod Quiet
 pub mod Walks
 pub mod AtOnce
 pub mod Written
+pub mod Cancelled
+pub mod Deleted

@@ -1,5 +1,5 @@
 -- Each line of a written text is that of one print, and a line of octets that of a PDU.
-use Rattle.std.proofs.Common.{◌≡◌, ℕ, Bool, true, false, List, [], ◌∷◌, ◌++◌, Option, Some, None, refl, sym, ap, subst, ◌∙◌, append_assoc, inl, inr, arith}
+use Rattle.std.proofs.Common.{◌≡◌, ℕ, Bool, true, false, List, [], ◌∷◌, ◌++◌, Option, Some, None, refl, sym, ap, subst, ◌∙◌, append_assoc, append-nil, inl, inr, arith}
 use Rattle.std.specs.Prelude.{codes, ◌==◌, if◌then◌else◌}
 use Rattle.std.specs.Fmt.{decimal}
 use Rattle.std.proofs.lemmas.List.{append_cancel_right}
@@ -246,6 +246,22 @@ pdu_printed print line more octets is said = by_print print is
     by_print (At node (Ungranted reason)) is = absurd (let same = begins 114 _ is in omega (arith, same))
     by_print (Refuses number) is = absurd (let same = begins 114 _ is in omega (arith, same))
     by_print StopsSettling is = absurd (let same = begins 117 _ is in omega (arith, same))
+
+-- a line of octets that is written is that of the PDU of a print
+pub record IsBrought (prints : List WorldPrint) (line octets : List ℕ) (said : IsPduLine line octets) : Type 0 where
+  pub print : WorldPrint
+  pub among : In print prints
+  pub brings : BringsPdu print octets line said
+
+pub brought_by : (prints : List WorldPrint) (line octets : List ℕ) → In line (lines_of (world_text prints)) → (said : IsPduLine line octets) →
+    IsBrought prints line octets said
+brought_by prints line octets among said =
+    let it = line_printed prints line among in
+    record {
+      print = it.print;
+      among = it.among;
+      brings = pdu_printed it.print line [] octets (it.written ∙ ap (λ (l : List ℕ). l ++ feed) (sym (append-nil line))) said;
+    }
 
 -- ---- a line that a session is gone, or that something is refused
 

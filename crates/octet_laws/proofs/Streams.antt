@@ -25,7 +25,7 @@ cut_more stream more =
     frames_one (stream ++ more) _ _ _ _ (streams_cut (stream ++ more))
     (frames_more (cut stream).frames stream (cut stream).rest more (cut behind).frames (cut behind).rest (streams_cut stream) (streams_cut behind))
 
-octets_of_none : IsOctets []
+pub octets_of_none : IsOctets []
 octets_of_none zero = omega arith
 octets_of_none (suc place) = omega arith
 

@@ -1,0 +1,163 @@
+-- The message of a cancel_sm that was answered ESME_ROK is granted no more, and told DELETED.
+use Rattle.std.proofs.Common.{◌≡◌, ◌⊎◌, ℕ, ◌≤◌, Bool, true, false, List, [], ◌∷◌, ◌++◌, length, map, Option, Some, None, Ok, refl}
+use Rattle.std.proofs.Common.{sym, ◌∙◌, ap, subst, inl, inr, append_assoc, append-nil, arith}
+use Rattle.std.specs.Prelude.{if◌then◌else◌}
+use Rattle.std.specs.Fmt.{decimal}
+use Rattle.mc_model.specs.node.Grant.{GrantRefusal}
+use Rattle.mc_model.specs.node.Input.{Grant as Grants}
+use Rattle.mc_model.specs.synod.Lists.{In}
+use Rattle.mc_parts.proofs.Membership.{in_either, in_right}
+use Rattle.node_model.specs.Attempts.{grant_refusal}
+use Rattle.node_model.specs.Granted.{known_slot}
+use Rattle.pdu_bodies.specs.declared.pdu.Pdu.{Pdu}
+use Rattle.script_lines.specs.Lines.{lines_of}
+use Rattle.script_lines.specs.Said.{Grant, Said, names_within, said_of, said_within, ◌>>=◌}
+use Rattle.script_text.specs.Laws.{StatesFate, pdu_in}
+use Rattle.script_text.specs.Prints.{Late, Print, Ungranted}
+use Rattle.script_text.specs.Runner.{Runner, granted_unless, on_grant}
+use Rattle.script_text.specs.Settings.{script_settings}
+use Rattle.script_world.specs.Prints.{At, Refuses, WorldPrint, world_text}
+use Rattle.script_world.specs.Script.{Joins, Stage, Stepped, nodes_of, step_by, step_of, stepped}
+use Rattle.script_world.specs.World.{Moved, NodeInput, World, grants, is_down, is_up, no_node, refuses, runner_at, shared, up_or_refuses}
+use Rattle.world_fates.proofs.Answering.{joins_more}
+use Rattle.world_fates.proofs.Granting.{attempts_refused}
+use Rattle.world_fates.proofs.Lines.{printed_at}
+use Rattle.octet_laws.specs.Cancels.{IsGrantedNoMore, written_then}
+use Rattle.octet_laws.specs.Tellings.{IsPduLine}
+use Rattle.octet_laws.proofs.Cancelled.{IsCancelled}
+use Rattle.octet_laws.proofs.Lines.{brought_by}
+use Rattle.octet_laws.proofs.Written.{written_so}
+
+-- ---- lines that stand behind lines that join
+
+some_same : (one other : Stepped) → Some one ≡ Some other → one ≡ other
+some_same one other is = cc
+
+-- what they print, and that they join from there
+pub record IsBehind (middle : Stage) (prints : List WorldPrint) (lines : List (List ℕ)) (whole : List WorldPrint) (last : Stage) : Type 0 where
+  pub coming : List NodeInput
+  pub others : List WorldPrint
+  pub joins : Joins script_settings middle lines coming others last
+  pub whole_is : whole ≡ prints ++ others
+
+pub joins_behind : (first : Stage) (before : List (List ℕ)) (came : List NodeInput) (prints : List WorldPrint) (middle : Stage) →
+    Joins script_settings first before came prints middle → (lines : List (List ℕ)) (all : List NodeInput) (whole : List WorldPrint) (last : Stage) →
+    Joins script_settings first (before ++ lines) all whole last → IsBehind middle prints lines whole last
+unfolding Joins
+joins_behind first [] came prints middle joins lines all whole last more = record {
+  coming = all;
+  others = whole;
+  joins = subst (λ (stage : Stage). Joins script_settings stage lines all whole last) (sym joins.2) more;
+  whole_is = ap (λ (p : List WorldPrint). p ++ whole) (sym joins.1);
+}
+joins_behind first (line ∷ before) came prints middle joins lines all whole last more =
+    let same = some_same more.0 joins.0 (sym more.3 ∙ joins.3) in
+    let rest = joins_behind joins.0.stage before joins.1 joins.2 middle joins.6 lines more.1 more.2 last
+    (subst (λ (d : Stepped). Joins script_settings d.stage (before ++ lines) more.1 more.2 last) same more.6) in
+    record {
+      coming = rest.coming;
+      others = rest.others;
+      joins = rest.joins;
+      whole_is = more.5 ∙ ap (λ (d : Stepped). d.prints ++ more.2) same ∙ ap (λ (p : List WorldPrint). joins.0.prints ++ p) rest.whole_is
+          ∙ sym (append_assoc joins.0.prints joins.2 rest.others) ∙ ap (λ (p : List WorldPrint). p ++ rest.others) (sym joins.5);
+    }
+
+-- ---- a line that asks for an attempt
+
+-- a line that does something names nodes that there are
+asks_within : (stage : Stage) (line : List ℕ) (said : Said) (done : Stepped) → said_of line ≡ Some said → step_of script_settings stage line ≡ Some done →
+    said_within (nodes_of stage) line ≡ Some said
+unfolding step_of
+asks_within stage line said done is does = by_said (said_of line) is (step_none stage) does
+  where
+    step_none : (stage : Stage) → step_by script_settings stage None ≡ Some done → ⊥
+    step_none None is = cc
+    step_none (Some world) is = cc
+
+    by_test : (one : Said) (test : Bool) → Some one ≡ Some said → (step_by script_settings stage None ≡ Some done → ⊥) →
+        step_by script_settings stage (if test then Some one else None) ≡ Some done → (if test then Some one else None) ≡ Some said
+    by_test one true is bad does = is
+    by_test one false is bad does = absurd (bad does)
+
+    by_said : (found : Option Said) → found ≡ Some said → (step_by script_settings stage None ≡ Some done → ⊥) →
+        step_by script_settings stage (found >>= (λ (one : Said). if names_within (nodes_of stage) one then Some one else None)) ≡ Some done →
+        (found >>= (λ (one : Said). if names_within (nodes_of stage) one then Some one else None)) ≡ Some said
+    by_said None is bad does = absurd cc
+    by_said (Some one) is bad does = by_test one (names_within (nodes_of stage) one) is bad does
+
+-- if nothing was granted, it prints no PDU
+grants_none : (world : World) (node id : ℕ) → (grants world node id).inputs ≡ [] → (other : ℕ) (print : Print) (pdu : Pdu) →
+    In (At other print) (grants world node id).prints → pdu_in print ≡ Some pdu → ⊥
+grants_none world node id none other print pdu among brings = by_runner (runner_at world node) none among
+  where
+    refused : (reason : ℕ) → In (At other print) (Refuses reason ∷ []) → ⊥
+    refused reason (inl same) = cc
+    refused reason (inr nothing) = nothing
+
+    some_input : {A : Type 0} (x : A) (xs : List A) → x ∷ xs ≡ [] → ⊥
+    some_input x xs is = cc
+
+    only : (reason : ℕ) → print ≡ Ungranted reason → ⊥
+    only reason is = let both = sym (ap pdu_in is) ∙ brings in cc
+
+    by_refusal : (runner : Runner) (refusal : Option GrantRefusal) →
+        map {B = NodeInput} (λ input. record { node = node; input = input }) (granted_unless runner id (known_slot runner.node.kept id) refusal).inputs ≡ [] →
+        In print (granted_unless runner id (known_slot runner.node.kept id) refusal).prints → ⊥
+    by_refusal runner None none among = some_input _ _ none
+    by_refusal runner (Some refusal) none (inl same) = only _ same
+    by_refusal runner (Some refusal) none (inr nothing) = nothing
+
+    by_up : (runner : Runner) (up : Bool) → (if up then shared world node (on_grant runner id) else refuses world is_down).inputs ≡ [] →
+        In (At other print) (if up then shared world node (on_grant runner id) else refuses world is_down).prints → ⊥
+    by_up runner true none among =
+        by_refusal runner (grant_refusal runner.node.setup runner.node.kept id) none (printed_at node other (on_grant runner id).prints print among).1
+    by_up runner false none among = refused is_down among
+
+    by_runner : (found : Option Runner) → (up_or_refuses world (λ runner. shared world node (on_grant runner id)) found).inputs ≡ [] →
+        In (At other print) (up_or_refuses world (λ runner. shared world node (on_grant runner id)) found).prints → ⊥
+    by_runner None none among = refused no_node among
+    by_runner (Some runner) none among = by_up runner (is_up runner) none among
+
+-- ---- the message is granted no more
+
+module _ (before : List (List ℕ)) (line : List ℕ) (node session sequence : ℕ) (it : IsCancelled before line node session sequence) where
+  abbrev pub lines : List (List ℕ)
+  lines = before ++ line ∷ []
+
+  pub joins_now : Joins script_settings None lines (it.came ++ it.done.inputs) (it.prints ++ it.done.prints) it.done.stage
+  joins_now = joins_more script_settings None (Some it.world) before it.came it.prints line it.done it.joins it.does
+
+  pub printed_now : In (At node (Late session it.id it.pdu)) (it.prints ++ it.done.prints)
+  printed_now = in_right (At node (Late session it.id it.pdu)) it.prints it.done.prints it.printed
+
+  pub states_now : StatesFate (Late session it.id it.pdu) it.message_id 4
+  states_now = inr (inl (
+    record { session = session; id = it.id; pdu = it.pdu; printed = refl; status = it.status; body = it.body; message = it.names },
+    refl,
+  ))
+
+  pub granted_no_more : IsGrantedNoMore lines it.message_id
+  unfolding step_of
+  granted_no_more later asking there id written octets says named among is_pdu =
+      let so = written_so (lines ++ later) asking written among in
+      let of_line = brought_by so.done.prints written octets (subst (In written) so.written_is among) is_pdu in
+      let brings = of_line.brings in
+      let behind = joins_behind None lines _ _ it.done.stage joins_now later so.joined.came so.joined.prints so.joined.last so.joined.joins in
+      let within = asks_within so.joined.last asking (Grant there id) so.done says so.does in
+      let nothing = attempts_refused script_settings lines later _ behind.coming _ behind.others it.done.stage so.joined.last asking so.done node there id
+      (Late session it.id it.pdu) 4 joins_now behind.joins printed_now
+      (subst (λ (m : List ℕ). StatesFate (Late session it.id it.pdu) m 4) (sym named) states_now) within so.does in
+      at_stage so.joined.last so.done within so.does nothing.inputs brings.node brings.printed brings.pdu
+      (subst (λ (p : WorldPrint). In p so.done.prints) brings.print_is of_line.among) brings.pdu_is
+    where
+      at_stage : (stage : Stage) (done : Stepped) → said_within (nodes_of stage) asking ≡ Some (Grant there id) → step_of script_settings stage asking ≡ Some done →
+          done.inputs ≡ [] → (other : ℕ) (print : Print) (pdu : Pdu) → In (At other print) done.prints → pdu_in print ≡ Some pdu → ⊥
+      at_stage None done within does none other print pdu among brings = absurd (let step = sym (ap (step_by script_settings None) within) ∙ does in cc)
+      at_stage (Some world) done within does none other print pdu among brings =
+          let same = some_same (record { stage = Some moved.next; inputs = moved.inputs; prints = moved.prints }) done
+          (sym (ap (step_by script_settings (Some world)) within) ∙ does) in
+          grants_none world there id (ap (λ (d : Stepped). d.inputs) same ∙ none) other print pdu
+          (subst (λ (d : Stepped). In (At other print) d.prints) (sym same) among) brings
+        where
+          moved : Moved
+          moved = grants world there id
