@@ -86,7 +86,7 @@ heard_octets node session before stream (line ∷ lines) are =
 -- ---- which print it is
 
 -- the number of a node is no zero
-least_node : (node other : ℕ) → IsNode node → decimal other ≡ decimal node → 1 ≤ other
+pub least_node : (node other : ℕ) → IsNode node → decimal other ≡ decimal node → 1 ≤ other
 least_node node zero is same = absurd (let most = is.most in let least = is.least in
     let none = decimal_injective zero node (omega arith) (omega (arith, most)) same in omega (arith, none, least))
 least_node node (suc other) is same = omega arith

@@ -3,6 +3,11 @@ use Rattle.std.proofs.Common.{◌≡◌, ◌⊎◌, ℕ, ◌≤◌, Bool, true, 
 use Rattle.std.proofs.Common.{sym, ◌∙◌, ap, subst, inl, inr, append_assoc, append-nil, arith}
 use Rattle.std.specs.Prelude.{if◌then◌else◌}
 use Rattle.std.specs.Fmt.{decimal}
+use Rattle.std.specs.Int.{to_be_bytes, w32}
+use Rattle.std.proofs.lemmas.Fmt.{decimal_injective}
+use Rattle.mc_model.specs.message.Ids.{IsNode}
+use Rattle.pdu_frames.specs.Frames.{cut}
+use Rattle.script_lines.specs.Said.{IsSession}
 use Rattle.mc_model.specs.node.Grant.{GrantRefusal}
 use Rattle.mc_model.specs.node.Input.{Grant as Grants}
 use Rattle.mc_model.specs.synod.Lists.{In}
@@ -20,13 +25,18 @@ use Rattle.script_world.specs.Prints.{At, Refuses, WorldPrint, world_text}
 use Rattle.script_world.specs.Script.{Joins, Stage, Stepped, nodes_of, step_by, step_of, stepped}
 use Rattle.script_world.specs.World.{Moved, NodeInput, World, grants, is_down, is_up, no_node, refuses, runner_at, shared, up_or_refuses}
 use Rattle.world_fates.proofs.Answering.{joins_more}
+use Rattle.world_fates.specs.Questions.{IsAskedAt}
+use Rattle.world_fates.proofs.Fresh.{later_queries}
 use Rattle.world_fates.proofs.Granting.{attempts_refused}
 use Rattle.world_fates.proofs.Lines.{printed_at}
-use Rattle.octet_laws.specs.Cancels.{IsGrantedNoMore, written_then}
+use Rattle.octet_laws.specs.Cancels.{HasSequence, IsGrantedNoMore, IsToldDeleted, heard_on, written_then}
 use Rattle.octet_laws.specs.Tellings.{IsPduLine}
-use Rattle.octet_laws.proofs.Cancelled.{IsCancelled}
-use Rattle.octet_laws.proofs.Lines.{brought_by}
-use Rattle.octet_laws.proofs.Written.{written_so}
+use Rattle.octet_laws.proofs.Cancelled.{IsCancelled, heard_octets, least_node, none_framed}
+use Rattle.octet_laws.proofs.Fates.{lines_tell}
+use Rattle.octet_laws.proofs.Lines.{brought_by, session_of}
+use Rattle.octet_laws.proofs.Reading.{has_sequence, header_read}
+use Rattle.octet_laws.proofs.Streams.{octets_of_none}
+use Rattle.octet_laws.proofs.Written.{lines_hear, written_so}
 
 -- ---- lines that stand behind lines that join
 
@@ -161,3 +171,60 @@ module _ (before : List (List ℕ)) (line : List ℕ) (node session sequence : �
         where
           moved : Moved
           moved = grants world there id
+
+  -- ---- and told DELETED
+
+  joins_next : Joins script_settings None lines (it.came ++ it.done.inputs) (it.prints ++ it.done.prints) (Some it.next)
+  joins_next = subst (Joins script_settings None lines (it.came ++ it.done.inputs) (it.prints ++ it.done.prints)) it.next_is joins_now
+
+  -- what waited came in octets
+  none_waited : (other number : ℕ) → 1 ≤ other → (sequence : ℕ) → IsAskedAt it.next other number sequence → (there at : ℕ) → IsNode there → IsSession at →
+      decimal other ≡ decimal there → decimal number ≡ decimal at → (also : ℕ) → to_be_bytes w32 sequence ≡ to_be_bytes w32 also →
+      ((frame : List ℕ) → In frame (cut (heard_on there at lines)).frames → HasSequence frame also → ⊥) → ⊥
+  none_waited other number least sequence asked there at is_node is_session nodes sessions also bytes none =
+      let hears = lines_hear other number least lines _ _ (Some it.next) joins_next in
+      let stream = heard_on other number lines in
+      let tied = ((hears.0 asked.runner asked.there).sound.each asked.session asked.connected).tied asked.request asked.waits in
+      let has = has_sequence stream (heard_octets other number [] [] lines octets_of_none) tied.frame tied.among tied.pdu tied.reads also
+      (ap (to_be_bytes w32) (tied.sequence_is ∙ asked.sequence_is) ∙ bytes) in
+      elim hears.1 [
+        | inl nothing ↦ none_framed tied.frame (subst (λ (s : List ℕ). In tied.frame (cut s).frames) nothing tied.among)
+        | inr small ↦
+            let one = decimal_injective other there small.0 (let most = is_node.most in omega (arith, most)) nodes in
+            let two = decimal_injective number at small.1 (let most = is_session.most in omega (arith, most)) sessions in
+            none tied.frame
+            (subst (λ (n : ℕ). In tied.frame (cut (heard_on n at lines)).frames) one
+            (subst (λ (s : ℕ). In tied.frame (cut (heard_on other s lines)).frames) two tied.among)) has
+      ]
+
+  pub told_deleted : IsToldDeleted lines it.message_id
+  told_deleted later asking there at octets answer w spelled message none =
+      let so = written_so (lines ++ later) asking w.written w.among in
+      let of_line = brought_by so.done.prints w.written octets (subst (In w.written) so.written_is w.among) w.is_pdu in
+      let brings = of_line.brings in
+      let print = brings.printed in
+      let here = subst (λ (p : WorldPrint). In p so.done.prints) brings.print_is of_line.among in
+      let whole = joins_more script_settings None so.joined.last (lines ++ later) so.joined.came so.joined.prints asking so.done so.joined.joins so.does in
+      let tells = lines_tell ((lines ++ later) ++ asking ∷ []) _ _ so.done.stage whole brings.node print brings.pdu octets it.message_id answer.message_state
+      (in_right (At brings.node print) so.joined.prints so.done.prints here) brings.pdu_is brings.octets_are answer spelled message refl in
+      let behind = joins_behind None lines _ _ (Some it.next) joins_next later so.joined.came so.joined.prints so.joined.last so.joined.joins in
+      let more = joins_more script_settings (Some it.next) so.joined.last later behind.coming behind.others asking so.done behind.joins so.does in
+      let nodes = brings.node_text ∙ ap decimal w.node_is in
+      let least = least_node there brings.node w.is_node nodes in
+      let header = header_read brings.pdu octets brings.octets_are _ _ spelled.sequence _ spelled.octets_are in
+      elim (later_queries script_settings lines (later ++ asking ∷ []) _ _ _ _ it.next so.done.stage node brings.node (Late session it.id it.pdu) print it.message_id
+      4 answer.message_state joins_next more least printed_now (in_right (At brings.node print) behind.others so.done.prints here) states_now tells) [
+        | inl same ↦ same
+        | inr waited ↦
+            let pdu : waited.pdu ≡ brings.pdu = some_pdu waited.pdu brings.pdu (sym (ap pdu_in waited.printed) ∙ brings.pdu_is) in
+            let number : waited.session ≡ brings.session = some_number waited.session brings.session (sym (ap session_of waited.printed) ∙ brings.session_is) in
+            absurd (none_waited brings.node waited.session least waited.pdu.sequence waited.asked there at w.is_node w.is_session nodes
+            (ap decimal number ∙ brings.session_text ∙ ap decimal w.session_is) spelled.sequence
+            (ap (λ (p : Pdu). to_be_bytes w32 p.sequence) pdu ∙ header.sequence_is) none)
+      ]
+    where
+      some_pdu : (one other : Pdu) → Some one ≡ Some other → one ≡ other
+      some_pdu one other is = cc
+
+      some_number : (one other : ℕ) → Some one ≡ Some other → one ≡ other
+      some_number one other is = cc

@@ -26,7 +26,7 @@ use Rattle.pdu_codec.proofs.PduSpelling.{read_pdu-takes, served}
 use Rattle.fate_laws.proofs.Clear.{HasNoZero}
 use Rattle.octet_laws.specs.Laws.{IsSpelledAs}
 use Rattle.octet_laws.specs.Tellings.{IsPdu, deliver_sm, esme_rok, query_sm_resp}
-use Rattle.octet_laws.specs.Cancels.{CancelCame, cancel_sm, cancel_sm_resp}
+use Rattle.octet_laws.specs.Cancels.{CancelCame, HasSequence, cancel_sm, cancel_sm_resp}
 use Rattle.octet_laws.proofs.Streams.{cut_octets}
 use Rattle.octet_laws.proofs.Words.{IsFrontRead, IsSplit, Lacks, cons_first, cons_rest, split}
 
@@ -241,6 +241,19 @@ cancel_came stream octets frame among pdu reads cancel body sequence same =
       };
       sequence_is = refl;
       message = refl;
+    }
+
+-- a frame that is read has the sequence_number
+pub has_sequence : (stream : List ℕ) → IsOctets stream → (frame : List ℕ) → In frame (cut stream).frames → (pdu : Pdu) → read_pdu frame ≡ Ok pdu →
+    (sequence : ℕ) → to_be_bytes w32 pdu.sequence ≡ to_be_bytes w32 sequence → HasSequence frame sequence
+unfolding octets_of
+has_sequence stream octets frame among pdu reads sequence same =
+    let takes = read_pdu-takes frame pdu (cut_octets stream octets frame among) reads in
+    record {
+      command = command_code (command_in pdu.body);
+      status = pdu.status;
+      body = body_octets pdu.body;
+      octets_are = takes.spelled ∙ framed_same (command_code (command_in pdu.body)) pdu.status pdu.sequence sequence (body_octets pdu.body) same;
     }
 
 pub answer_read : (pdu : Pdu) (octets : List ℕ) → IsFrontRead (octets_of pdu) octets → (answer : QueryAnswer) →
