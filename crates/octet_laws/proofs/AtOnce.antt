@@ -1,5 +1,5 @@
 -- No cancel_sm_resp with ESME_ROK goes out at once.
-use Rattle.std.proofs.Common.{◌≡◌, ℕ, ◌^◌, ◌%◌, Bool, true, false, List, [], ◌∷◌, Option, Some, None, Result, Ok, Err, refl, sym, ◌∙◌, ap, subst, arith}
+use Rattle.std.proofs.Common.{◌≡◌, ℕ, ◌^◌, ◌%◌, Bool, true, false, List, [], Option, Some, None, Result, Ok, Err, refl, sym, subst, arith}
 use Rattle.std.specs.Prelude.{◌==◌, find, if◌then◌else◌, option_map}
 use Rattle.std.specs.Str.{bytes_eq}
 use Rattle.accounts.specs.Accounts.{account_of, bind_refusal}
@@ -12,7 +12,6 @@ use Rattle.mc_model.specs.node.Input.{Arrival, Refusal}
 use Rattle.mc_types.specs.Texts.{id_in}
 use Rattle.node_model.specs.Stepped.{stepped_down, stepped_up}
 use Rattle.pdu_bodies.specs.declared.pdu.Bind.{Bind}
-use Rattle.pdu_bodies.specs.declared.pdu.BindAnswer.{BindAnswer}
 use Rattle.pdu_bodies.specs.declared.pdu.Body.{Body}
 use Rattle.pdu_bodies.specs.declared.pdu.Body.TheVariants as bodies
 use Rattle.pdu_bodies.specs.declared.pdu.Pdu.{Pdu}
@@ -29,7 +28,7 @@ use Rattle.pdu_tables.specs.declared.status.Status.TheVariants as statuses
 use Rattle.sessions.specs.Faults.{status_of_long, told_of}
 use Rattle.sessions.specs.Session.{Session}
 use Rattle.sessions.specs.States.{in_state, is_gone}
-use Rattle.sessions.specs.Responses.{bind_request, bound_answer, bound_body, pdu_of, requested_by, response_pdu}
+use Rattle.sessions.specs.Responses.{bind_request, pdu_of, requested_by, response_pdu}
 use Rattle.sessions.specs.Steps.{answers_to, asks, bind_in, binds_by, binds_unless, leaves, on_cell, on_fault, on_pdu, on_wrong_length, refused, request_in, responds}
 use Rattle.sessions.specs.Steps.{stays}
 use Rattle.sessions.specs.Table.{Answers, Asks, Binds, Cell, Drops, Links, NotServed, Refuses, Unbinds, cell_of}
@@ -40,7 +39,7 @@ use Rattle.sessions.specs.declared.reaction.Reaction.TheVariants as reactions
 use Rattle.sessions.specs.declared.requested.Requested.{Requested}
 use Rattle.sessions.specs.declared.requested.Requested.TheVariants as requests
 use Rattle.sessions.specs.declared.response.Response.{Response}
-use Rattle.sessions.specs.declared.response.Response.TheVariants.{Bound, Linked, Nack, Refused, Unbound}
+use Rattle.sessions.specs.declared.response.Response.TheVariants.{Bound, Nack, Refused}
 use Rattle.sessions.specs.declared.state.SessionState.{SessionState}
 use Rattle.sessions.specs.declared.state.SessionState.TheVariants as states
 use Rattle.desk.specs.Admissions.{about, admitted, asks_about}

@@ -1,6 +1,6 @@
 -- A cancel_sm_resp with ESME_ROK that is written answers a cancel_sm that came on its session.
-use Rattle.std.proofs.Common.{◌≡◌, ◌⊎◌, ℕ, ◌<◌, ◌^◌, ◌%◌, ◌≤◌, zero, suc, Bool, true, false, List, [], ◌∷◌, ◌++◌, length, map, Option, Some, None, Ok, refl}
-use Rattle.std.proofs.Common.{sym, ◌∙◌, ap, subst, inl, inr, append_assoc, append-nil, arith}
+use Rattle.std.proofs.Common.{◌≡◌, ℕ, ◌^◌, ◌%◌, ◌≤◌, zero, suc, Bool, true, false, List, [], ◌∷◌, ◌++◌, Option, Some, None, refl}
+use Rattle.std.proofs.Common.{sym, ◌∙◌, ap, subst, inl, inr, arith}
 use Rattle.std.specs.Prelude.{◌==◌, ◌&&◌, codes, if◌then◌else◌, not}
 use Rattle.std.specs.Fmt.{decimal}
 use Rattle.std.specs.Int.{to_be_bytes, w32}
@@ -9,41 +9,29 @@ use Rattle.std.specs.Str.{bytes_eq}
 use Rattle.std.proofs.lemmas.Fmt.{decimal_injective}
 use Rattle.hex.proofs.HexLemmas.{decode_of-ok}
 use Rattle.mc_model.specs.message.Ids.{IsNode}
-use Rattle.mc_model.specs.node.Grant.{GrantRefusal}
 use Rattle.mc_model.specs.synod.Lists.{In}
-use Rattle.mc_parts.proofs.Membership.{in_right}
-use Rattle.node_laws.proofs.Orders.{in_mapped}
-use Rattle.node_model.specs.Attempts.{grant_refusal}
-use Rattle.node_model.specs.Granted.{known_slot}
 use Rattle.octet_fields.specs.Texts.{IsOctets}
 use Rattle.pdu_bodies.specs.declared.pdu.Body.TheVariants.{CancelSmResp}
 use Rattle.pdu_bodies.specs.declared.pdu.Pdu.{Pdu}
-use Rattle.pdu_codec.specs.Pdu.{octets_of}
 use Rattle.pdu_frames.specs.Frames.{cut, cut_within}
 use Rattle.pdu_tables.specs.StatusCodes.{status_code}
 use Rattle.pdu_tables.specs.declared.status.Status.TheVariants as statuses
-use Rattle.receipts.specs.Texts.{Report}
 use Rattle.script_lines.specs.Lines.{lines_of}
-use Rattle.script_lines.specs.Said.{Said, Skipped, Nodes, Octets, Deliver, Crash, Tick, Grant, Settle, Restart, Replay, IsSession, names_within, said_of, said_within}
+use Rattle.script_lines.specs.Said.{Said, Skipped, Nodes, Octets, Deliver, Crash, Tick, Grant, Settle, Restart, Replay, said_of, said_within}
 use Rattle.script_lines.proofs.SaidLemmas.{spelled_so}
-use Rattle.script_text.specs.Laws.{StatesFate, pdu_in}
+use Rattle.script_text.specs.Laws.{pdu_in}
 use Rattle.script_text.specs.Prints.{AtOnce, Declined, Delivers, Gone, Late, Print, Reports, Ungranted, Unsettled, report_pdu}
-use Rattle.script_text.specs.Runner.{Runner, granted_unless, on_grant}
 use Rattle.script_text.specs.Settings.{script_settings}
-use Rattle.script_world.specs.Prints.{At, Refuses, StopsSettling, WorldPrint, world_text}
-use Rattle.script_world.specs.Script.{Joins, Stage, Stepped, nodes_of, prints_from, step_by, step_of}
-use Rattle.script_world.specs.World.{Moved, NodeInput, World, grants, is_down, is_up, no_node, refuses, runner_at, shared, up_or_refuses}
-use Rattle.world_fates.specs.Laws.{GrantsNothing}
-use Rattle.world_fates.proofs.Answering.{joins_more}
-use Rattle.world_fates.proofs.Granting.{attempts_refused}
-use Rattle.octet_laws.specs.Cancels.{CancelCame, IsCancelAnswer, IsGrantedNoMore, Writes, brought, gone_line, heard_behind, heard_on, heard_then, written_then}
-use Rattle.octet_laws.specs.Tellings.{IsPduLine}
+use Rattle.script_world.specs.Prints.{At, WorldPrint, world_text}
+use Rattle.script_world.specs.Script.{Joins, Stage, Stepped, step_by, step_of}
+use Rattle.script_world.specs.World.{NodeInput, World}
+use Rattle.octet_laws.specs.Cancels.{CancelCame, IsCancelAnswer, Writes, brought, gone_line, heard_behind, heard_on, heard_then, written_then}
 use Rattle.octet_laws.proofs.Lines.{brought_by, session_of}
-use Rattle.octet_laws.proofs.Reading.{HasHeader, cancel_came, cancelled_read, header_read, status_zero}
+use Rattle.octet_laws.proofs.Reading.{cancel_came, cancelled_read, header_read, status_zero}
 use Rattle.octet_laws.proofs.Streams.{octets_both, octets_of_none}
 use Rattle.octet_laws.proofs.Ties.{IsAnswer, IsRight}
 use Rattle.octet_laws.proofs.Walks.{IsShort, line_so}
-use Rattle.octet_laws.proofs.Written.{IsJoined, IsWritten, joined_prints, lines_hear, written_so}
+use Rattle.octet_laws.proofs.Written.{lines_hear, written_so}
 
 -- ---- a stream is of octets
 

@@ -1,6 +1,6 @@
 -- The message of a cancel_sm that was answered ESME_ROK is granted no more, and told DELETED.
-use Rattle.std.proofs.Common.{◌≡◌, ◌⊎◌, ℕ, ◌≤◌, Bool, true, false, List, [], ◌∷◌, ◌++◌, length, map, Option, Some, None, Ok, refl}
-use Rattle.std.proofs.Common.{sym, ◌∙◌, ap, subst, inl, inr, append_assoc, append-nil, arith}
+use Rattle.std.proofs.Common.{◌≡◌, ℕ, ◌≤◌, Bool, true, false, List, [], ◌∷◌, ◌++◌, map, Option, Some, None, refl}
+use Rattle.std.proofs.Common.{sym, ◌∙◌, ap, subst, inl, inr, append_assoc, arith}
 use Rattle.std.specs.Prelude.{if◌then◌else◌}
 use Rattle.std.specs.Fmt.{decimal}
 use Rattle.std.specs.Int.{to_be_bytes, w32}
@@ -9,29 +9,26 @@ use Rattle.mc_model.specs.message.Ids.{IsNode}
 use Rattle.pdu_frames.specs.Frames.{cut}
 use Rattle.script_lines.specs.Said.{IsSession}
 use Rattle.mc_model.specs.node.Grant.{GrantRefusal}
-use Rattle.mc_model.specs.node.Input.{Grant as Grants}
 use Rattle.mc_model.specs.synod.Lists.{In}
-use Rattle.mc_parts.proofs.Membership.{in_either, in_right}
+use Rattle.mc_parts.proofs.Membership.{in_right}
 use Rattle.node_model.specs.Attempts.{grant_refusal}
 use Rattle.node_model.specs.Granted.{known_slot}
 use Rattle.pdu_bodies.specs.declared.pdu.Pdu.{Pdu}
-use Rattle.script_lines.specs.Lines.{lines_of}
 use Rattle.script_lines.specs.Said.{Grant, Said, names_within, said_of, said_within, ◌>>=◌}
 use Rattle.script_text.specs.Laws.{StatesFate, pdu_in}
 use Rattle.script_text.specs.Prints.{Late, Print, Ungranted}
 use Rattle.script_text.specs.Runner.{Runner, granted_unless, on_grant}
 use Rattle.script_text.specs.Settings.{script_settings}
-use Rattle.script_world.specs.Prints.{At, Refuses, WorldPrint, world_text}
-use Rattle.script_world.specs.Script.{Joins, Stage, Stepped, nodes_of, step_by, step_of, stepped}
+use Rattle.script_world.specs.Prints.{At, Refuses, WorldPrint}
+use Rattle.script_world.specs.Script.{Joins, Stage, Stepped, nodes_of, step_by, step_of}
 use Rattle.script_world.specs.World.{Moved, NodeInput, World, grants, is_down, is_up, no_node, refuses, runner_at, shared, up_or_refuses}
 use Rattle.world_fates.proofs.Answering.{joins_more}
 use Rattle.world_fates.specs.Questions.{IsAskedAt}
 use Rattle.world_fates.proofs.Fresh.{later_queries}
 use Rattle.world_fates.proofs.Granting.{attempts_refused}
 use Rattle.world_fates.proofs.Lines.{printed_at}
-use Rattle.octet_laws.specs.Cancels.{HasSequence, IsGrantedNoMore, IsToldDeleted, heard_on, written_then}
-use Rattle.octet_laws.specs.Tellings.{IsPduLine}
-use Rattle.octet_laws.proofs.Cancelled.{IsCancelled, heard_octets, least_node, none_framed}
+use Rattle.octet_laws.specs.Cancels.{ACancelledMessageStaysDeleted, HasSequence, IsGrantedNoMore, IsToldDeleted, heard_on}
+use Rattle.octet_laws.proofs.Cancelled.{IsCancelled, heard_octets, is_cancelled, least_node, none_framed}
 use Rattle.octet_laws.proofs.Fates.{lines_tell}
 use Rattle.octet_laws.proofs.Lines.{brought_by, session_of}
 use Rattle.octet_laws.proofs.Reading.{has_sequence, header_read}
@@ -228,3 +225,15 @@ module _ (before : List (List ℕ)) (line : List ℕ) (node session sequence : �
 
       some_number : (one other : ℕ) → Some one ≡ Some other → one ≡ other
       some_number one other is = cc
+
+-- ---- the law
+
+pub stays_deleted : ACancelledMessageStaysDeleted
+stays_deleted before line node session sequence octets w is =
+    let it = is_cancelled before line node session sequence octets w is in
+    record {
+      message_id = it.message_id;
+      came = it.cancel;
+      granted = granted_no_more before line node session sequence it;
+      told = told_deleted before line node session sequence it;
+    }

@@ -1,11 +1,7 @@
 -- What octets that come on a session leave of the requests that wait there, and at the other sessions.
 use Rattle.std.proofs.Common.{◌≡◌, ◌⊎◌, ℕ, ◌<◌, Bool, true, false, cond, List, [], ◌∷◌, ◌++◌, Option, Some, None, Result, Ok, Err, refl}
 use Rattle.std.proofs.Common.{sym, ◌∙◌, ap, subst, inl, inr, arith}
-use Rattle.std.specs.Prelude.{◌==◌, if◌then◌else◌, is_none}
-use Rattle.std.specs.Fmt.{decimal}
-use Rattle.std.specs.Map.{remove_entry}
-use Rattle.std.specs.Ordering.{nat_cmp}
-use Rattle.std.specs.BTreeMap.{insert_entry, is_at}
+use Rattle.std.specs.Prelude.{if◌then◌else◌}
 use Rattle.std.specs.Str.{bytes_eq}
 use Rattle.accounts.specs.Accounts.{account_of, bind_refusal}
 use Rattle.accounts.specs.declared.account.Account.{Account}
@@ -13,16 +9,14 @@ use Rattle.accounts.specs.declared.role.Role.{Role}
 use Rattle.accounts.specs.declared.role.Role.TheVariants as roles
 use Rattle.accounts.specs.declared.route.Route.{Route}
 use Rattle.mc_model.specs.synod.Lists.{In}
-use Rattle.mc_model.specs.node.Actor.{Cancel, Query, Request as Waited, Submit}
-use Rattle.mc_model.specs.node.Input.{Arrival, Input, Refusal, Restart}
-use Rattle.mc_parts.proofs.Membership.{in_either, in_right, in_two}
+use Rattle.mc_model.specs.node.Actor.{Cancel, Query, Request as Waited}
+use Rattle.mc_model.specs.node.Input.{Arrival, Restart}
+use Rattle.mc_parts.proofs.Membership.{in_two}
 use Rattle.mc_types.specs.Texts.{id_in}
 use Rattle.mc_types.proofs.Texts.{ids_and_texts}
-use Rattle.node_laws.proofs.Orders.{in_append}
 use Rattle.node_model.specs.Kept.{Held, Kept}
 use Rattle.node_model.specs.Outputs.{Stepped as NodeStep}
 use Rattle.node_model.specs.Requests.{ticket_of}
-use Rattle.node_model.proofs.Places.{elsewhere, here as here_now}
 use Rattle.pdu_bodies.specs.declared.pdu.Bind.{Bind}
 use Rattle.pdu_bodies.specs.declared.pdu.Body.{Body}
 use Rattle.pdu_bodies.specs.declared.pdu.Body.TheVariants as bodies
@@ -34,12 +28,9 @@ use Rattle.pdu_codec.specs.Grammar.{word_at}
 use Rattle.pdu_codec.specs.Pdu.{read_pdu}
 use Rattle.pdu_fields.specs.declared.fault.PduFault.{PduFault}
 use Rattle.pdu_fields.specs.declared.fault.PduFault.TheVariants as faults
-use Rattle.pdu_frames.specs.Frames.{Cut, begins_wrong, cut}
 use Rattle.pdu_tables.specs.CommandCodes.{command_of}
-use Rattle.pdu_tables.specs.StatusCodes.{status_code}
 use Rattle.pdu_tables.specs.declared.status.Status.{Status}
 use Rattle.pdu_tables.specs.declared.status.Status.TheVariants as statuses
-use Rattle.sessions.specs.Faults.{told_of}
 use Rattle.sessions.specs.Session.{Session}
 use Rattle.sessions.specs.States.{bound_as, is_gone}
 use Rattle.sessions.specs.Responses.{requested_by}
@@ -58,23 +49,18 @@ use Rattle.desk.specs.Times.{Times}
 use Rattle.desk.specs.declared.door.Door.{Door}
 use Rattle.desk.specs.declared.request.Request.{Request}
 use Rattle.desk.specs.declared.request.Request.TheVariants as asked
-use Rattle.script_text.specs.Attempts.{all_given_up, delivered_so}
-use Rattle.script_text.specs.Node.{Node, request_at, step_at}
-use Rattle.script_text.specs.Prints.{AtOnce, Gone, Late, Print}
-use Rattle.script_text.specs.Pushes.{session_at}
+use Rattle.script_text.specs.Node.{Node, step_at}
+use Rattle.script_text.specs.Prints.{Gone, Print}
 use Rattle.script_text.specs.Responses.{refused_with}
-use Rattle.script_text.specs.Runner.{Acted, Came, Runner, Served, came_by, ends, followed_by, held_in, holds, in_window, nothing_came, on_done, on_frame}
-use Rattle.script_text.specs.Runner.{on_frames, on_octets, on_reaction, on_read, on_request, on_rest, opened_at, or_nothing, posts_for, put_at, reaction_prints}
-use Rattle.script_text.specs.Runner.{refusal_prints, request_of, served_at, serves, session_in, session_or_opened, unasked}
+use Rattle.script_text.specs.Runner.{Came, Served, came_by, in_window, nothing_came, on_done}
+use Rattle.script_text.specs.Runner.{on_reaction, on_read, on_request}
+use Rattle.script_text.specs.Runner.{refusal_prints, request_of, unasked}
 use Rattle.script_text.specs.Settings.{Settings}
-use Rattle.world_fates.proofs.Entries.{AreApart, Has, found_entry, insert_apart, inserted_in, none_left, remove_apart, removed_in}
 use Rattle.world_fates.proofs.Windows.{ComesOf, fault_so, pdu_so, wrong_length_so}
 use Rattle.octet_laws.proofs.AtOnce.{IsNoDeletion, SaysNone, asked_for, fault_none, length_none, pdu_none, request_none}
 use Rattle.octet_laws.proofs.Holding.{StepSo, stepped_so}
-use Rattle.octet_laws.proofs.Numbered.{insert_has, insert_here, none_there, remove_elsewhere, remove_has, removed_there, some_there}
-use Rattle.octet_laws.proofs.Streams.{cut_more}
-use Rattle.octet_laws.proofs.Ties.{GoesOn, Hears, Holds, IsFine, IsLess, IsPlain, IsSound, IsSoundSession, IsTied, Keeps, Lessens, Names, all_on}
-use Rattle.octet_laws.proofs.Ties.{delivered_on, keeps_then, on_same, plain_fine, posts_for_keep, sound_less, sound_on, step_on}
+use Rattle.octet_laws.proofs.Ties.{GoesOn, IsPlain, Names, all_on}
+use Rattle.octet_laws.proofs.Ties.{delivered_on, on_same, step_on}
 
 -- ---- a session goes only if its end is told
 

@@ -1,5 +1,5 @@
 -- What a step of a node leaves of the requests that wait there, and to which of them it replies.
-use Rattle.std.proofs.Common.{◌≡◌, ◌⊎◌, ℕ, suc, ◌<◌, ◌≤◌, Bool, true, false, cond, List, [], ◌∷◌, ◌++◌, map, Option, Some, None, refl}
+use Rattle.std.proofs.Common.{◌≡◌, ◌⊎◌, ℕ, ◌<◌, ◌≤◌, Bool, true, false, List, [], ◌∷◌, map, Option, Some, None, refl}
 use Rattle.std.proofs.Common.{sym, ◌∙◌, ap, subst, inl, inr, arith}
 use Rattle.std.specs.Prelude.{◌==◌, if◌then◌else◌, filter, max, pred}
 use Rattle.mc_model.specs.message.Decree.{Decree}
@@ -17,15 +17,15 @@ use Rattle.mc_model.specs.node.Replies.{Answer, NotOwner, Removed, Shown, TooLat
 use Rattle.mc_model.specs.node.Setup.{Setup}
 use Rattle.mc_parts.proofs.Membership.{in_filter, in_two}
 use Rattle.node_laws.proofs.Orders.{in_mapped}
-use Rattle.node_model.specs.Answers.{answer_by, answer_to, is_owner, query_shown, replied, replies_to, reply_of, still_waits}
-use Rattle.node_model.specs.Attempts.{closed_by, concluded, on_grant, on_response}
+use Rattle.node_model.specs.Answers.{answer_by, answer_to, is_owner, query_shown, replied, replies_to, still_waits}
+use Rattle.node_model.specs.Attempts.{closed_by, concluded, on_response}
 use Rattle.node_model.specs.Kept.{Held, Kept, message_at, with_message}
 use Rattle.node_model.specs.Learner.{heard, makes_known}
 use Rattle.node_model.specs.Message.{Message, Round}
 use Rattle.node_model.specs.Outputs.{Stepped, leaves}
-use Rattle.node_model.specs.Packets.{answer_told, heard_in, is_member, is_own_name, known_then, on_ask, on_known, on_packet, on_prepare, on_promise}
-use Rattle.node_model.specs.Packets.{on_propose, on_refused, on_tell, on_voted, promised_in, settled_for, settled_told, start_told, tell_held, tells_about}
-use Rattle.node_model.specs.Packets.{told_to, vote_concerns}
+use Rattle.node_model.specs.Packets.{answer_told, heard_in, is_member, is_own_name, known_then, on_known, on_packet}
+use Rattle.node_model.specs.Packets.{promised_in, settled_for, settled_told, start_told, tell_held, tells_about}
+use Rattle.node_model.specs.Packets.{vote_concerns}
 use Rattle.node_model.specs.Proposer.{Prepared, Start, is_free, is_own_ballot, runs_at, started}
 use Rattle.node_model.specs.Requests.{begun, held_at, id_of, is_cancel, settled_by, settles, ticket_of, told_by, with_held}
 use Rattle.node_model.specs.Rules.{Fitting, first_rule}

@@ -1,5 +1,5 @@
 -- Octets come on a session: it ends, or its stream goes on; and other sessions hear nothing of them.
-use Rattle.std.proofs.Common.{◌≡◌, ◌⊎◌, ℕ, ◌<◌, Bool, true, false, cond, List, [], ◌∷◌, ◌++◌, Option, Some, None, Result, Ok, Err, refl}
+use Rattle.std.proofs.Common.{◌≡◌, ◌⊎◌, ℕ, ◌<◌, Bool, true, false, cond, List, [], ◌∷◌, ◌++◌, Option, Some, None, Ok, refl}
 use Rattle.std.proofs.Common.{sym, ◌∙◌, ap, subst, inl, inr}
 use Rattle.std.specs.Prelude.{if◌then◌else◌, is_none}
 use Rattle.std.specs.Map.{lookup, remove_entry}
@@ -7,8 +7,7 @@ use Rattle.std.specs.Ordering.{nat_cmp}
 use Rattle.std.specs.BTreeMap.{insert_entry, is_at}
 use Rattle.mc_model.specs.synod.Lists.{In}
 use Rattle.mc_parts.proofs.Membership.{in_either, in_left, in_right}
-use Rattle.node_laws.proofs.Orders.{in_append}
-use Rattle.node_model.specs.Kept.{Held, Kept}
+use Rattle.node_model.specs.Kept.{Held}
 use Rattle.node_model.specs.Requests.{ticket_of}
 use Rattle.node_model.proofs.Places.{elsewhere, here as here_now}
 use Rattle.pdu_bodies.specs.declared.pdu.Pdu.{Pdu}
@@ -16,7 +15,6 @@ use Rattle.pdu_codec.specs.Pdu.{read_pdu}
 use Rattle.pdu_frames.specs.Frames.{Cut, begins_wrong, cut, cut_within}
 use Rattle.sessions.specs.Session.{Session}
 use Rattle.sessions.specs.States.{is_gone}
-use Rattle.sessions.specs.Steps.{on_wrong_length}
 use Rattle.sessions.specs.declared.request.OpenRequest.{OpenRequest}
 use Rattle.script_text.specs.Prints.{Gone, Late, Print}
 use Rattle.script_text.specs.Pushes.{session_at}
@@ -25,10 +23,10 @@ use Rattle.script_text.specs.Runner.{Acted, Runner, Served, ends, followed_by, h
 use Rattle.script_text.specs.Runner.{opened_at, or_nothing, posts_for, put_at, served_at, serves, session_in, session_or_opened}
 use Rattle.script_text.specs.Settings.{Settings}
 use Rattle.world_fates.proofs.Entries.{AreApart, Has, found_entry, insert_apart, inserted_in, none_left, remove_apart, removed_in}
-use Rattle.octet_laws.proofs.Hearing.{IsBegun, ServedSo, length_so, length_told, read_so}
-use Rattle.octet_laws.proofs.Numbered.{insert_has, insert_here, none_there, remove_elsewhere, remove_has, removed_there, some_there}
+use Rattle.octet_laws.proofs.Hearing.{ServedSo, length_so, length_told, read_so}
+use Rattle.octet_laws.proofs.Numbered.{insert_has, insert_here, remove_elsewhere, remove_has, removed_there, some_there}
 use Rattle.octet_laws.proofs.Streams.{cut_more}
-use Rattle.octet_laws.proofs.Ties.{GoesOn, Hears, Holds, IsFine, IsLess, IsPlain, IsRight, IsSound, IsSoundSession, IsTied, Keeps, Lessens, Posts, keeps_then}
+use Rattle.octet_laws.proofs.Ties.{Hears, IsFine, IsPlain, IsRight, IsSound, IsTied, Keeps, Lessens, Posts, keeps_then}
 use Rattle.octet_laws.proofs.Ties.{plain_fine, posted_for_any_posts, posts_for_keep, sound_less, sound_on, tied_on}
 
 -- a session is put in its place
@@ -366,8 +364,13 @@ module _ (number : ℕ) (stream : List ℕ) (settings : Settings) where
             served.session.account))
         by_test true is =
             then_posted (record next { sessions = without }) served.prints refl
-            (inr (none_left number runner.sessions s.sound.apart, so.gone (session_stands runner s) is, given_now,
-            remove_apart (is_at (nat_cmp number)) runner.sessions s.sound.apart, gone_prints_so)) served.session.account _ refl
+            (inr (
+              none_left number runner.sessions s.sound.apart,
+              so.gone (session_stands runner s) is,
+              given_now,
+              remove_apart (is_at (nat_cmp number)) runner.sessions s.sound.apart,
+              gone_prints_so,
+            )) served.session.account _ refl
           where
             gone_prints_so : (print : Print) → In print served.prints → IsPlain print ⊎ (print ≡ Gone number)
             gone_prints_so print among = elim (so.prints print among) [ inl plain ↦ inl plain | inr gone ↦ inr gone.0 ]

@@ -1,5 +1,5 @@
 -- Acts at which no session goes, and lines that are among others.
-use Rattle.std.proofs.Common.{◌≡◌, ◌⊎◌, ℕ, Bool, true, false, List, [], ◌∷◌, ◌++◌, map, Option, Some, None, Result, Ok, Err, cond, refl, sym, ◌∙◌, ap, subst, inl, inr}
+use Rattle.std.proofs.Common.{◌≡◌, ◌⊎◌, ℕ, Bool, true, false, List, [], ◌∷◌, ◌++◌, map, Option, Some, None, cond, refl, sym, ◌∙◌, ap, subst, inl, inr}
 use Rattle.std.specs.Prelude.{◌||◌, is_none}
 use Rattle.std.specs.List.{list_any}
 use Rattle.std.specs.Str.{bytes_eq}
@@ -16,24 +16,16 @@ use Rattle.node_model.specs.Granted.{known_slot}
 use Rattle.pdu_bodies.specs.declared.pdu.Pdu.{Pdu}
 use Rattle.sessions.specs.Session.{Session}
 use Rattle.pdu_codec.specs.Pdu.{read_pdu}
-use Rattle.pdu_fields.specs.declared.fault.PduFault.{PduFault}
 use Rattle.pdu_frames.specs.Frames.{begins_wrong, cut}
-use Rattle.pdu_codec.specs.Grammar.{word_at}
-use Rattle.pdu_tables.specs.CommandCodes.{command_of}
-use Rattle.sessions.specs.Responses.{requested_by}
-use Rattle.sessions.specs.Steps.{on_fault, on_pdu, on_wrong_length}
-use Rattle.sessions.specs.declared.reaction.Reaction.{Reaction}
-use Rattle.sessions.specs.declared.reaction.Reaction.TheVariants as reactions
-use Rattle.sessions.specs.declared.requested.Requested.{Requested}
-use Rattle.desk.specs.declared.request.Request.{Request}
+use Rattle.sessions.specs.Steps.{on_wrong_length}
 use Rattle.script_text.specs.Settings.{Settings}
 use Rattle.script_text.specs.Attempts.{submission_at}
 use Rattle.script_text.specs.Node.{Node, awaiting, step_at, tick_at}
 use Rattle.script_text.specs.Prints.{AtOnce, Declined, Delivers, Gone, Late, Print, Reports, Ungranted, Unsettled}
 use Rattle.script_text.specs.Pushes.{accounts_up, session_at, target_in}
-use Rattle.script_text.specs.Runner.{Acted, Came, Runner, Served, answered_by, came_by, ends, followed_by, gives_up, granted, granted_unless, held_in, holds}
-use Rattle.script_text.specs.Runner.{mail_of, nothing_came, on_delivery, on_done, on_frame, on_frames, on_grant, on_octets, on_reaction, on_read, on_request, on_rest, on_tick}
-use Rattle.script_text.specs.Runner.{opened_at, pushes, refusal_prints, sent, sent_to, served_at, serves, session_in, ticked, told}
+use Rattle.script_text.specs.Runner.{Acted, Runner, Served, answered_by, ends, followed_by, gives_up, granted, granted_unless, held_in, holds}
+use Rattle.script_text.specs.Runner.{mail_of, nothing_came, on_delivery, on_done, on_frame, on_frames, on_grant, on_octets, on_read, on_rest, on_tick}
+use Rattle.script_text.specs.Runner.{opened_at, pushes, sent, sent_to, served_at, serves, session_in, ticked, told}
 use Rattle.script_world.specs.Prints.{At}
 use Rattle.world_fates.proofs.Asking.{replies_tell}
 use Rattle.octet_laws.proofs.Hearing.{ServedSo, length_so, read_so}

@@ -1,7 +1,7 @@
 -- The requests that wait on a session came in its stream, and what is replied to them is of the messages that they name.
-use Rattle.std.proofs.Common.{◌≡◌, ◌⊎◌, ℕ, ◌^◌, ◌%◌, ◌<◌, ◌≤◌, zero, suc, Bool, true, false, cond, List, [], ◌∷◌, ◌++◌, length, map, Option, Some, None, Ok, refl}
+use Rattle.std.proofs.Common.{◌≡◌, ◌⊎◌, ℕ, ◌^◌, ◌%◌, ◌<◌, ◌≤◌, zero, suc, Bool, true, false, cond, List, [], ◌∷◌, length, Option, Some, None, Ok, refl}
 use Rattle.std.proofs.Common.{sym, ◌∙◌, ap, subst, inl, inr, arith}
-use Rattle.std.specs.Prelude.{◌==◌, find, if◌then◌else◌, nat_lt}
+use Rattle.std.specs.Prelude.{◌==◌, find}
 use Rattle.std.specs.Fmt.{decimal}
 use Rattle.std.specs.Map.{lookup, set_value}
 use Rattle.std.specs.Ordering.{nat_cmp}
@@ -22,7 +22,7 @@ use Rattle.node_model.specs.Attempts.{grant_refusal}
 use Rattle.node_model.specs.Granted.{is_open, known_slot}
 use Rattle.node_model.specs.Kept.{Held, Kept}
 use Rattle.node_model.specs.Outputs.{Stepped as NodeStep}
-use Rattle.node_model.specs.Requests.{id_of, is_cancel, ticket_of}
+use Rattle.node_model.specs.Requests.{is_cancel, ticket_of}
 use Rattle.pdu_bodies.specs.declared.pdu.Body.{Body}
 use Rattle.pdu_bodies.specs.declared.pdu.Body.TheVariants.{CancelSm, CancelSmResp}
 use Rattle.pdu_bodies.specs.declared.pdu.Cancel.{Cancel as CancelBody}
@@ -34,7 +34,7 @@ use Rattle.pdu_tables.specs.declared.status.Status.TheVariants as statuses
 use Rattle.receipts.specs.Texts.{Report}
 use Rattle.sessions.specs.Session.{Session}
 use Rattle.sessions.specs.States.{is_gone}
-use Rattle.sessions.specs.Steps.{on_push, on_reply, on_tick as on_moment, push_refusal, pushed_unless}
+use Rattle.sessions.specs.Steps.{on_reply, on_tick as on_moment, push_refusal, pushed_unless}
 use Rattle.sessions.specs.declared.pushed.Delivery.{Delivery}
 use Rattle.sessions.specs.declared.pushed.Delivery.TheVariants as deliveries
 use Rattle.sessions.specs.declared.pushed.Pushed.{Pushed}
@@ -42,21 +42,21 @@ use Rattle.sessions.specs.declared.pushed.PushRefusal.{PushRefusal}
 use Rattle.sessions.specs.declared.request.OpenRequest.{OpenRequest}
 use Rattle.sessions.specs.declared.requested.Requested.{Requested}
 use Rattle.script_text.specs.Attempts.{Went, all_given_up, concluded, delivered_so, given_up, rests_at, submission_at, unanswered, went}
-use Rattle.script_text.specs.Node.{Node, awaiting, step_at, tick_at, with_step}
+use Rattle.script_text.specs.Node.{Node, awaiting, step_at, tick_at}
 use Rattle.script_text.specs.Prints.{AtOnce, Declined, Delivers, Gone, Late, Print, Reports, Ungranted, Unsettled}
 use Rattle.script_text.specs.Pushes.{accounts_up, delivery_on, overdue_in, pushed_on, session_at, target_in, timely_in, with_push}
 use Rattle.script_text.specs.Receipts.{Mail, Posted, all_posted, goes_out, goes_out_up_to, is_for, posted, posted_for, posted_for_all}
 use Rattle.script_text.specs.Receipts.{posted_for_any, posted_to, reports_on, stays, submitter_of, then_posted, waits_for, with_both}
 use Rattle.script_text.specs.Responses.{reply_pdu}
-use Rattle.script_text.specs.Runner.{Acted, Owned, Runner, Told, answered_by, fails_by, followed_by, gives_up, granted, granted_unless, held_in, in_front}
+use Rattle.script_text.specs.Runner.{Acted, Owned, Runner, answered_by, fails_by, followed_by, gives_up, granted, granted_unless, held_in}
 use Rattle.script_text.specs.Runner.{mail_of, makes_room, on_delivery, on_grant, on_tick, owner_of, posts, posts_for, posts_for_all, pushes, replied}
-use Rattle.script_text.specs.Runner.{replied_at, reports_by, sent, sent_to, ticked, told, with_posted}
+use Rattle.script_text.specs.Runner.{replied_at, sent, sent_to, ticked, told, with_posted}
 use Rattle.fate_laws.proofs.Posting.{left_in}
 use Rattle.world_fates.proofs.Entries.{AreApart, Has, found_entry, map_apart, set_apart, set_in}
 use Rattle.world_fates.proofs.Asking.{AsksOn, replies_tell}
 use Rattle.world_fates.proofs.Fresh.{reply_sequence}
 use Rattle.octet_laws.proofs.AtOnce.{IsNoDeletion}
-use Rattle.octet_laws.proofs.Holding.{IsAmong, IsNew, StepSo, stepped_so}
+use Rattle.octet_laws.proofs.Holding.{IsAmong, StepSo, stepped_so}
 
 -- ---- what is said of a session
 
@@ -506,17 +506,19 @@ answered_keep number stream runner node input sound held plain = record {
         let waited = so.replies reply among in
         let tied = (sound.each asks.session asks.there).tied request asks.among in
         let cancel = waited.removed removed.0 removed.1 in
-        let names = named tied.pdu.body waited.from.waiting.request cancel (tied.names waited.from waited.among (waited.ticket ∙ sym ticket)) in
-        (record {
-          frame = tied.frame;
-          among = tied.among;
-          pdu = tied.pdu;
-          reads = tied.reads;
-          sequence_is = tied.sequence_is ∙ reply_sequence request.requested request.sequence reply.id reply.answer;
-          cancel = names.0;
-          body = names.1;
-          names = ap decimal (sym waited.id) ∙ names.2;
-        }, ap (λ (a : Answer). (reply_pdu request.requested request.sequence reply.id a).status) removed.1)
+        let names = named tied.pdu.body waited.from.waiting.request cancel (tied.names waited.from waited.among (waited.ticket ∙ sym ticket)) in (
+          record {
+            frame = tied.frame;
+            among = tied.among;
+            pdu = tied.pdu;
+            reads = tied.reads;
+            sequence_is = tied.sequence_is ∙ reply_sequence request.requested request.sequence reply.id reply.answer;
+            cancel = names.0;
+            body = names.1;
+            names = ap decimal (sym waited.id) ∙ names.2;
+          },
+          ap (λ (a : Answer). (reply_pdu request.requested request.sequence reply.id a).status) removed.1,
+        )
 
 pub delivery_keep : (number : ℕ) (stream : List ℕ) (runner : Runner) (packet : Packet) (others : List Packet) → Hears number stream runner →
     Keeps number stream (on_delivery runner packet others)

@@ -1,37 +1,27 @@
 -- What each line leaves of what came on a session and of the requests that wait there.
-use Rattle.std.proofs.Common.{◌≡◌, ◌⊎◌, ℕ, ◌<◌, ◌^◌, ◌≤◌, zero, suc, pred, Bool, true, false, List, [], ◌∷◌, ◌++◌, length, map, Option, Some, None, refl}
+use Rattle.std.proofs.Common.{◌≡◌, ◌⊎◌, ℕ, ◌<◌, ◌^◌, ◌≤◌, zero, suc, pred, Bool, true, false, List, [], ◌∷◌, ◌++◌, length, Option, Some, None, refl}
 use Rattle.std.proofs.Common.{sym, ◌∙◌, ap, subst, inl, inr, append-nil, eqb-true, eq-eqb, arith}
 use Rattle.std.specs.Prelude.{◌==◌, ◌&&◌, codes, if◌then◌else◌, not, nat_lt, reverse}
 use Rattle.std.specs.Fmt.{decimal, digits}
 use Rattle.std.specs.List.{list_any, range_with_len}
 use Rattle.std.specs.Str.{bytes_eq}
-use Rattle.std.proofs.lemmas.Bool.{and_parts}
 use Rattle.std.proofs.lemmas.Fmt.{decimal_injective}
 use Rattle.mc_model.specs.synod.Lists.{In}
-use Rattle.mc_model.specs.synod.Packet.{Packet, Slot}
-use Rattle.mc_model.specs.node.Grant.{GrantRefusal}
-use Rattle.mc_model.specs.node.Input.{Crash as Stops, Grant as Grants, Restart as Starts}
-use Rattle.mc_model.specs.message.Submission.{Submission}
+use Rattle.mc_model.specs.synod.Packet.{Packet}
+use Rattle.mc_model.specs.node.Input.{Crash as Stops, Restart as Starts}
 use Rattle.mc_parts.proofs.Membership.{in_either}
 use Rattle.node_laws.proofs.Orders.{in_mapped}
-use Rattle.node_model.specs.Attempts.{grant_refusal}
-use Rattle.node_model.specs.Granted.{known_slot}
-use Rattle.node_model.specs.Kept.{Held, Kept}
+use Rattle.node_model.specs.Kept.{Held}
 use Rattle.node_model.specs.Requests.{ticket_of}
-use Rattle.node_model.specs.Stepped.{stepped, stepped_down, stepped_up}
-use Rattle.pdu_bodies.specs.declared.pdu.Body.TheVariants.{CancelSmResp}
-use Rattle.pdu_bodies.specs.declared.pdu.Pdu.{Pdu}
-use Rattle.pdu_frames.specs.Frames.{cut, cut_within}
-use Rattle.pdu_tables.specs.StatusCodes.{status_code}
-use Rattle.pdu_tables.specs.declared.status.Status.TheVariants as statuses
+use Rattle.node_model.specs.Stepped.{stepped_down, stepped_up}
+use Rattle.pdu_frames.specs.Frames.{cut_within}
 use Rattle.sessions.specs.Session.{Session}
 use Rattle.script_lines.specs.Lines.{lines_of}
 use Rattle.script_lines.specs.Said.{Said, Skipped, Nodes, Octets, Deliver, Crash, Tick, Grant, Settle, Restart, Replay, said_within}
 use Rattle.script_lines.proofs.SaidLemmas.{spells_within}
-use Rattle.script_text.specs.Node.{Node, step_at}
-use Rattle.script_text.specs.Prints.{Declined, Gone, Late, Print}
+use Rattle.script_text.specs.Prints.{Declined, Gone, Print}
 use Rattle.script_text.specs.Runner.{Acted, Runner, declined, given_out, gone_prints, held_in, last_incarnation, most_deliveries, no_incarnation, on_delivery, on_grant}
-use Rattle.script_text.specs.Runner.{on_octets, on_restart, on_tick, restarted}
+use Rattle.script_text.specs.Runner.{on_octets, on_tick, restarted}
 use Rattle.script_text.specs.Settings.{Settings}
 use Rattle.script_world.specs.Prints.{At, Refuses, StopsSettling, WorldPrint, world_text}
 use Rattle.script_world.specs.Script.{Stepped, moved_by, step_by, step_of, stepped as does}
@@ -48,7 +38,7 @@ use Rattle.octet_laws.proofs.Lines.{IsRefusal, gone_told, gone_written, refused_
 use Rattle.octet_laws.proofs.Octets.{Ends, Lasts, octets_other, octets_own}
 use Rattle.octet_laws.proofs.Hearing.{not_both}
 use Rattle.octet_laws.proofs.Quiet.{IsUngone, any_in, delivery_ungone, grant_ungone, in_any, in_printed, octets_only, only_right, plain_no_refusal, tick_ungone}
-use Rattle.octet_laws.proofs.Ties.{Hears, IsAnswer, IsFine, IsPlain, IsRight, Keeps, delivery_keep, grant_keep, sound_on, step_on, tick_keep}
+use Rattle.octet_laws.proofs.Ties.{Hears, IsPlain, IsRight, Keeps, delivery_keep, grant_keep, sound_on, step_on, tick_keep}
 
 module _ (m number : ℕ) (least_m : 1 ≤ m) where
   -- the session of the node hears this stream
@@ -109,7 +99,6 @@ module _ (m number : ℕ) (least_m : 1 ≤ m) where
     }
 
     module _ (world : World) (heard : WorldHears stream world) (node : ℕ) (least : 1 ≤ node) where
-
       shared_so : (acted : Acted) → (m ≡ node → Keeps number stream acted) → IsUngone acted.prints → MovesSo (shared world node acted)
       shared_so acted keeps ungone = record {
         hears = λ runner is.
@@ -327,8 +316,10 @@ module _ (m number : ℕ) (least_m : 1 ≤ m) where
               nothing runner same = cc
 
               by_gone : (test : Bool) → IsShort (if test then [] else stream ++ brought m number (Some says) (written_in (Refuses no_node ∷ [])))
-              by_gone test = inr (subst (λ (n : ℕ). n < 2 ^ 64) (eqb-true node m is) (omega (arith, most)),
-                  subst (λ (n : ℕ). n < 2 ^ 64) (eqb-true at number also) (omega (arith, last)))
+              by_gone test = inr (
+                subst (λ (n : ℕ). n < 2 ^ 64) (eqb-true node m is) (omega (arith, most)),
+                subst (λ (n : ℕ). n < 2 ^ 64) (eqb-true at number also) (omega (arith, last)),
+              )
 
       module _ (runner : Runner) (there : runner_at world node ≡ Some runner) where
         abbrev acted : Acted
@@ -505,9 +496,9 @@ module _ (m number : ℕ) (least_m : 1 ≤ m) where
             | inr elsewhere ↦ heard next elsewhere.0
           ])
           (λ print among.
-              let it = printed_at node m acted.prints print among in
-              let from = in_mapped (λ (entry : ℕ × Session). Gone entry.0) runner.sessions print (subst (In print) prints it.1) in
-              subst (IsRight number stream) (sym from.is) tt)
+          let it = printed_at node m acted.prints print among in
+          let from = in_mapped (λ (entry : ℕ × Session). Gone entry.0) runner.sessions print (subst (In print) prints it.1) in
+          subst (IsRight number stream) (sym from.is) tt)
         where
           moved : Moved
           moved = shared world node acted

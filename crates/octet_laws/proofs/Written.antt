@@ -1,6 +1,6 @@
 -- What a line writes behind others, and what came on a session by the lines before it.
-use Rattle.std.proofs.Common.{◌≡◌, ◌⊎◌, ℕ, ◌≤◌, zero, suc, pred, Bool, true, false, List, [], ◌∷◌, ◌++◌, drop, length, Option, Some, None, refl}
-use Rattle.std.proofs.Common.{sym, ◌∙◌, ap, subst, inl, inr, append_assoc, append-nil, arith}
+use Rattle.std.proofs.Common.{◌≡◌, ◌⊎◌, ℕ, ◌≤◌, pred, Bool, true, false, List, [], ◌∷◌, ◌++◌, drop, length, Option, Some, None, refl}
+use Rattle.std.proofs.Common.{sym, ◌∙◌, ap, subst, inl, inr, append_assoc, append-nil}
 use Rattle.std.specs.Prelude.{if◌then◌else◌, option_map, slice_get}
 use Rattle.std.specs.List.{range_with_len}
 use Rattle.std.proofs.lemmas.Option.{slice_get-map}
@@ -12,12 +12,12 @@ use Rattle.script_text.specs.Node.{opened_by}
 use Rattle.script_text.specs.Runner.{Runner, runner_opened}
 use Rattle.script_text.specs.Settings.{Settings, script_settings}
 use Rattle.script_world.specs.Prints.{WorldPrint, world_line, world_text}
-use Rattle.script_world.specs.Script.{Joins, Stage, Stepped, after, nodes_of, prints_from, step_by, step_of}
-use Rattle.script_world.specs.World.{NodeInput, World, opened, runner_at, setup_of}
+use Rattle.script_world.specs.Script.{Joins, Stage, Stepped, after, prints_from, step_by, step_of}
+use Rattle.script_world.specs.World.{NodeInput, opened, setup_of}
 use Rattle.world_fates.proofs.Answering.{joins_more}
 use Rattle.octet_laws.specs.Cancels.{heard_behind, heard_on, heard_then, written_by, written_then}
 use Rattle.octet_laws.proofs.Ties.{Hears}
-use Rattle.octet_laws.proofs.Walks.{IsShort, LineSo, WorldHears, line_so}
+use Rattle.octet_laws.proofs.Walks.{IsShort, WorldHears, line_so}
 
 -- ---- texts
 
@@ -86,10 +86,10 @@ then_written before came prints last line done joins does =
     let front = joined_prints None before came prints last joins in
     let whole = joined_prints None (before ++ line ∷ []) _ _ _ (joins_more script_settings None last before came prints line done joins does) in
     ap lines_of (
-      ap (λ (p : List WorldPrint). drop (length (written_by before)) (world_text p)) whole
-      ∙ ap (λ (p : List WorldPrint). drop (length (world_text p)) (world_text (prints ++ done.prints))) front
-      ∙ ap (drop (length (world_text prints))) (text_both prints done.prints)
-      ∙ drop_front (world_text prints) (world_text done.prints))
+    ap (λ (p : List WorldPrint). drop (length (written_by before)) (world_text p)) whole
+    ∙ ap (λ (p : List WorldPrint). drop (length (world_text p)) (world_text (prints ++ done.prints))) front
+    ∙ ap (drop (length (world_text prints))) (text_both prints done.prints)
+    ∙ drop_front (world_text prints) (world_text done.prints))
 
 -- a bad line prints nothing
 bad : (line : List ℕ) (lines : List (List ℕ)) (first : Stage) (came : List NodeInput) (prints : List WorldPrint) (last : Stage) →

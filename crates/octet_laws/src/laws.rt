@@ -1,5 +1,6 @@
 //! The law of what the octets that a script writes tell of fates: nothing to call, but to cite.
 
+ghost use Rattle.octet_laws.specs.Cancels.{ACancelledMessageStaysDeleted};
 ghost use Rattle.octet_laws.specs.Example.{TwoLinesTellOneFate};
 ghost use Rattle.octet_laws.specs.Laws.{OneFateIsWritten, WhatIsReadIsSpelled};
 
@@ -12,6 +13,13 @@ pub fn one_fate_is_written()
 /// And so do those that the codec reads: what `read_pdu` finds to be a query_sm_resp or a deliver_sm is one as the law has it.
 pub fn what_is_read_is_spelled()
     ensures { WhatIsReadIsSpelled }
+{}
+
+/// Each cancel_sm_resp with ESME_ROK that a script writes (SMPP 3.4, 4.9.2) answers a cancel_sm (SMPP 3.4, 4.9.1) that came on its session, with its
+/// sequence_number. After the line by which it is written no later line that asks for an attempt of the message of that cancel_sm writes a deliver_sm, and
+/// each query_sm_resp with ESME_ROK for the message (SMPP 3.4, 4.8.2) tells DELETED, if nothing with its sequence_number had come on its session before.
+pub fn a_cancelled_message_stays_deleted()
+    ensures { ACancelledMessageStaysDeleted }
 {}
 
 /// The law speaks of something: a delivery receipt and a query_sm_resp at another node tell one fate.
