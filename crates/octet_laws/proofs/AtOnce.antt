@@ -29,7 +29,8 @@ use Rattle.sessions.specs.Faults.{status_of_long, told_of}
 use Rattle.sessions.specs.Session.{Session}
 use Rattle.sessions.specs.States.{in_state, is_gone}
 use Rattle.sessions.specs.Responses.{bind_request, pdu_of, requested_by, response_pdu}
-use Rattle.sessions.specs.Steps.{answers_to, asks, bind_in, binds_by, binds_unless, leaves, on_cell, on_fault, on_pdu, on_wrong_length, refused, request_in, responds}
+use Rattle.sessions.specs.Steps.{answers_to, asks, bind_in, binds_by, binds_unless, leaves, on_cell, on_fault, on_pdu, on_wrong_length, refused}
+use Rattle.sessions.specs.Steps.{request_in, responds}
 use Rattle.sessions.specs.Steps.{stays}
 use Rattle.sessions.specs.Table.{Answers, Asks, Binds, Cell, Drops, Links, NotServed, Refuses, Unbinds, cell_of}
 use Rattle.sessions.specs.Windows.{has_room}
@@ -332,7 +333,8 @@ refused_by : (node : Node) (judged : Result Waited Status) (status : ℕ) → (s
     (why : Status) × (judged ≡ Err why) × (status ≡ status_code why)
 refused_by node (Ok request) status is = absurd (by_up node.kept.up is)
   where
-    by_up : (up : Bool) → (if up then stepped_up node.setup node.kept (Arrival request) else stepped_down node.setup node.kept (Arrival request)).outputs.refused
+    by_up : (up : Bool) →
+        (if up then stepped_up node.setup node.kept (Arrival request) else stepped_down node.setup node.kept (Arrival request)).outputs.refused
         ≡ Some status → ⊥
     by_up true is = cc
     by_up false is = cc

@@ -217,7 +217,8 @@ module _ (before : List (List ℕ)) (line : List ℕ) (node session sequence : �
               next_is = next_is;
               id = id;
               pdu = pdu;
-              printed = subst (λ (n : ℕ). In (At n (Late session id pdu)) done.prints) one (subst (λ (s : ℕ). In (At m (Late s id pdu)) done.prints) two printed);
+              printed = subst (λ (n : ℕ). In (At n (Late session id pdu)) done.prints) one
+                  (subst (λ (s : ℕ). In (At m (Late s id pdu)) done.prints) two printed);
               status = status;
               body = body;
               message_id = answer.cancel.message_id;

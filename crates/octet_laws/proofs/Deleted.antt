@@ -157,7 +157,8 @@ module _ (before : List (List ℕ)) (line : List ℕ) (node session sequence : �
       at_stage so.joined.last so.done within so.does nothing.inputs brings.node brings.printed brings.pdu
       (subst (λ (p : WorldPrint). In p so.done.prints) brings.print_is of_line.among) brings.pdu_is
     where
-      at_stage : (stage : Stage) (done : Stepped) → said_within (nodes_of stage) asking ≡ Some (Grant there id) → step_of script_settings stage asking ≡ Some done →
+      at_stage : (stage : Stage) (done : Stepped) → said_within (nodes_of stage) asking ≡ Some (Grant there id) →
+          step_of script_settings stage asking ≡ Some done →
           done.inputs ≡ [] → (other : ℕ) (print : Print) (pdu : Pdu) → In (At other print) done.prints → pdu_in print ≡ Some pdu → ⊥
       at_stage None done within does none other print pdu among brings = absurd (let step = sym (ap (step_by script_settings None) within) ∙ does in cc)
       at_stage (Some world) done within does none other print pdu among brings =
@@ -209,7 +210,8 @@ module _ (before : List (List ℕ)) (line : List ℕ) (node session sequence : �
       let nodes = brings.node_text ∙ ap decimal w.node_is in
       let least = least_node there brings.node w.is_node nodes in
       let header = header_read brings.pdu octets brings.octets_are _ _ spelled.sequence _ spelled.octets_are in
-      elim (later_queries script_settings lines (later ++ asking ∷ []) _ _ _ _ it.next so.done.stage node brings.node (Late session it.id it.pdu) print it.message_id
+      elim (later_queries script_settings lines (later ++ asking ∷ []) _ _ _ _ it.next so.done.stage node brings.node (Late session it.id it.pdu) print
+      it.message_id
       4 answer.message_state joins_next more least printed_now (in_right (At brings.node print) behind.others so.done.prints here) states_now tells) [
         | inl same ↦ same
         | inr waited ↦

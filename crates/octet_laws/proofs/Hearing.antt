@@ -265,7 +265,8 @@ module _ (frame : List ℕ) (node : Node) (at : ℕ) (before : Session) where
         by_test false = refl
 
     asked_so : (session : Session) → ((waits : OpenRequest) → In waits session.requests → In waits before.requests) →
-        (is_gone before.state ≡ false → is_gone session.state ≡ false) → ServedSo frame node before at (on_request at node session requested pdu.sequence (Some account) (Some request))
+        (is_gone before.state ≡ false → is_gone session.state ≡ false) →
+        ServedSo frame node before at (on_request at node session requested pdu.sequence (Some account) (Some request))
     asked_so session less stays_here = record {
       on = step_on (judged_as judged) node.kept step so;
       requests = window_so session less step.outputs.ticket refl;
@@ -276,7 +277,8 @@ module _ (frame : List ℕ) (node : Node) (at : ℕ) (before : Session) where
     }
 
   reaction_so : (settings : Settings) (came : Came) (done : Done) → ((request : OpenRequest) → In request done.next.requests → In request before.requests) →
-      GoesSo before done → ((outgoing : Outgoing) (abandoned : List Pushed) → done.reaction ≡ reactions.Leave outgoing abandoned → is_gone done.next.state ≡ true) →
+      GoesSo before done → ((outgoing : Outgoing) (abandoned : List Pushed) → done.reaction ≡ reactions.Leave outgoing abandoned →
+      is_gone done.next.state ≡ true) →
       SaysNone settings.system_id done.reaction →
       ((requested : Requested) (account : List ℕ) (request : Request) → came.request ≡ Some request → done.reaction ≡ reactions.Ask requested →
       (is_gone before.state ≡ false → is_gone done.next.state ≡ false) →
@@ -337,7 +339,8 @@ module _ (frame : List ℕ) (node : Node) (at : ℕ) (before : Session) where
   read_so settings (Ok pdu) is =
       let done = on_pdu settings.accounts before pdu in
       let comes = pdu_so settings.accounts before pdu in
-      reaction_so settings (came_by settings pdu) done comes.less (cell_goes settings.accounts before pdu (cell_of (command_in pdu.body) before.state)) comes.leaves
+      reaction_so settings (came_by settings pdu) done comes.less
+      (cell_goes settings.accounts before pdu (cell_of (command_in pdu.body) before.state)) comes.leaves
       (pdu_none settings.system_id settings.accounts before pdu)
       (λ requested account request brings asks stay.
       asked_so settings pdu is requested account request brings (asked_for settings.accounts before pdu requested asks) done.next comes.less stay)

@@ -285,12 +285,14 @@ packet_so : (input : Input) (setup : Setup) (k : Kept) (packet : Packet) → Ste
 packet_so input setup k (Prepare sender slot ballot) =
     either input k (is_member setup sender) _ _ (same_so input k _ (record { held = refl; ticket = refl }) refl refl) (leaves_so input k)
 packet_so input setup k (Promise sender slot ballot report) =
-    either input k (is_member setup sender) _ _ (promised_so input setup k (message_at k slot.id) (message_at k slot.id).round sender slot ballot report) (leaves_so input k)
+    either input k (is_member setup sender) _ _
+    (promised_so input setup k (message_at k slot.id) (message_at k slot.id).round sender slot ballot report) (leaves_so input k)
 packet_so input setup k (Propose sender slot vote) =
     either input k (is_member setup sender) _ _ (same_so input k _ (record { held = refl; ticket = refl }) refl refl) (leaves_so input k)
 packet_so input setup k (Voted sender slot vote) =
     either input k (is_member setup sender) _ _
-    (either input k (vote_concerns setup k slot vote) _ _ (voted_so input setup k slot.id (heard (message_at k slot.id) sender vote) vote) (leaves_so input k)) (leaves_so input k)
+    (either input k (vote_concerns setup k slot vote) _ _ (voted_so input setup k slot.id (heard (message_at k slot.id) sender vote) vote)
+    (leaves_so input k)) (leaves_so input k)
 packet_so input setup k (Refused sender slot ballot promised) =
     either input k (is_member setup sender) _ _
     (either input k (is_own_ballot setup k ballot) _ _ (same_so input k _ (record { held = refl; ticket = refl }) refl refl) (leaves_so input k))

@@ -70,7 +70,10 @@ plain_ungone : (prints : List Print) → ((print : Print) → In print prints �
 plain_ungone prints plain session among = plain (Gone session) among
 
 both_ungone : (one other : List Print) → IsUngone one → IsUngone other → IsUngone (one ++ other)
-both_ungone one other first last session among = elim (in_either (Gone session) one other among) [ inl here ↦ first session here | inr there ↦ last session there ]
+both_ungone one other first last session among = elim (in_either (Gone session) one other among) [
+  | inl here ↦ first session here
+  | inr there ↦ last session there
+]
 
 pub delivery_ungone : (runner : Runner) (packet : Packet) (others : List Packet) → IsUngone (on_delivery runner packet others).prints
 delivery_ungone runner packet others =

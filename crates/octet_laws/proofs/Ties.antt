@@ -371,7 +371,8 @@ pub record Posts (number : ℕ) (mail : Mail) (posted : Posted) : Type 0 where
 stays_posted : (number : ℕ) (mail : Mail) → Posts number mail (stays mail)
 stays_posted number mail = record { lessens = same_lessens number mail.sessions; plain = λ print among. absurd among }
 
-then_posts : (number : ℕ) (mail : Mail) (first last : Posted) → Posts number mail first → Posts number first.mail last → Posts number mail (then_posted first last)
+then_posts : (number : ℕ) (mail : Mail) (first last : Posted) → Posts number mail first → Posts number first.mail last →
+    Posts number mail (then_posted first last)
 then_posts number mail first last one other = record {
   lessens = less_then number mail.sessions first.mail.sessions last.mail.sessions one.lessens other.lessens;
   plain = λ print among. elim (in_either print first.prints last.prints among) [ inl here ↦ one.plain print here | inr there ↦ other.plain print there ];

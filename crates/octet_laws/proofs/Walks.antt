@@ -20,13 +20,16 @@ use Rattle.script_lines.specs.Lines.{lines_of}
 use Rattle.script_lines.specs.Said.{Said, Skipped, Nodes, Octets, Deliver, Crash, Tick, Grant, Settle, Restart, Replay, said_within}
 use Rattle.script_lines.proofs.SaidLemmas.{spells_within}
 use Rattle.script_text.specs.Prints.{Declined, Gone, Print}
-use Rattle.script_text.specs.Runner.{Acted, Runner, declined, given_out, gone_prints, held_in, last_incarnation, most_deliveries, no_incarnation, on_delivery, on_grant}
+use Rattle.script_text.specs.Runner.{Acted, Runner, declined, given_out, gone_prints, held_in, last_incarnation, most_deliveries, no_incarnation}
+use Rattle.script_text.specs.Runner.{on_delivery, on_grant}
 use Rattle.script_text.specs.Runner.{on_octets, on_tick, restarted}
 use Rattle.script_text.specs.Settings.{Settings}
 use Rattle.script_world.specs.Prints.{At, Refuses, StopsSettling, WorldPrint, world_text}
 use Rattle.script_world.specs.Script.{Stepped, moved_by, step_by, step_of, stepped as does}
-use Rattle.script_world.specs.World.{Due, Moved, World, all_come, comes, comes_again, comes_if, comes_to, crashed, crashes, crashes_if, due, grants, hears, if_due}
-use Rattle.script_world.specs.World.{if_up, is_down, is_up, is_up_at, marked, no_node, no_packet, node_numbers, on_replay, on_settle, packet_of, refuses, replays}
+use Rattle.script_world.specs.World.{Due, Moved, World, all_come, comes, comes_again, comes_if, comes_to, crashed, crashes, crashes_if, due, grants, hears}
+use Rattle.script_world.specs.World.{if_due}
+use Rattle.script_world.specs.World.{if_up, is_down, is_up, is_up_at, marked, no_node, no_packet, node_numbers, on_replay, on_settle, packet_of, refuses}
+use Rattle.script_world.specs.World.{replays}
 use Rattle.script_world.specs.World.{restarts, restarts_if, runner_at, settles, shared, stays, then_moved, ticks, unsettled, up_or_refuses}
 use Rattle.world_fates.proofs.Entries.{AreApart, Has}
 use Rattle.world_fates.proofs.Lines.{one_node, printed_at}
@@ -129,7 +132,8 @@ module _ (m number : ℕ) (least_m : 1 ≤ m) where
       ticks_so : (moment : ℕ) → MovesSo (ticks world node moment)
       ticks_so moment =
           if_up_so (λ runner. shared world node (on_tick runner moment))
-          (λ runner is. shared_so (on_tick runner moment) (λ same. tick_keep number stream runner moment (the_runner runner is same)) (tick_ungone runner moment))
+          (λ runner is. shared_so (on_tick runner moment) (λ same. tick_keep number stream runner moment (the_runner runner is same))
+          (tick_ungone runner moment))
 
       grants_so : (id : ℕ) → MovesSo (grants world node id)
       grants_so id =
@@ -301,9 +305,11 @@ module _ (m number : ℕ) (least_m : 1 ≤ m) where
 
           by_own : (one two : Bool) → (node == m) ≡ one → (at == number) ≡ two → LineSo stream says (done_by (refuses world no_node))
           by_own false two is also =
-              calm_line stream says (refuses world no_node) (not_brought (written_in (Refuses no_node ∷ [])) (λ own. not_both (node == m) is (eq-eqb node m own.0))) short moves
+              calm_line stream says (refuses world no_node)
+              (not_brought (written_in (Refuses no_node ∷ [])) (λ own. not_both (node == m) is (eq-eqb node m own.0))) short moves
           by_own true false is also =
-              calm_line stream says (refuses world no_node) (not_brought (written_in (Refuses no_node ∷ [])) (λ own. not_both (at == number) also (eq-eqb at number own.1))) short moves
+              calm_line stream says (refuses world no_node)
+              (not_brought (written_in (Refuses no_node ∷ [])) (λ own. not_both (at == number) also (eq-eqb at number own.1))) short moves
           by_own true true is also = record {
             next = world;
             stage_is = refl;
@@ -340,7 +346,8 @@ module _ (m number : ℕ) (least_m : 1 ≤ m) where
             elim (octets_only settings runner at octets (Gone it.number) here.1) [
               | inl plain ↦ absurd plain
               | inr same ↦
-                  same_session stream short node at most last (ap decimal (sym here.0) ∙ it.node_is) (ap decimal (sym (number_of_gone it.number same)) ∙ it.session_is)
+                  same_session stream short node at most last (ap decimal (sym here.0) ∙ it.node_is)
+                  (ap decimal (sym (number_of_gone it.number same)) ∙ it.session_is)
             ]
           where
             number_of_gone : (other : ℕ) → Gone other ≡ Gone at → other ≡ at
@@ -539,7 +546,8 @@ module _ (m number : ℕ) (least_m : 1 ≤ m) where
         calm : (moved : Moved) → MovesSo stream moved → LineSo stream said (done_by moved)
         calm = calm_there node least most said (λ written. refl)
 
-        stops : (one : Packet) (runner : Runner) → runner_at world node ≡ Some runner → LineSo stream said (done_by (shared world node (crashed one after runner)))
+        stops : (one : Packet) (runner : Runner) → runner_at world node ≡ Some runner →
+            LineSo stream said (done_by (shared world node (crashed one after runner)))
         stops one runner there =
             all_gone node least most said (λ written. refl) runner there (crashed one after runner) refl refl refl
             (λ hears. (sound_on number stream runner.node.kept _ runner.sessions (step_on (Stops one after) runner.node.kept _
@@ -567,7 +575,8 @@ module _ (m number : ℕ) (least_m : 1 ≤ m) where
 
         -- nothing waits at a node that starts
         given_none : (runner : Runner) (up : Bool) (h : Held) →
-            In h (if up then stepped_up runner.node.setup runner.node.kept (Starts 0) else stepped_down runner.node.setup runner.node.kept (Starts 0)).kept.held → ⊥
+            In h (if up then stepped_up runner.node.setup runner.node.kept (Starts 0)
+            else stepped_down runner.node.setup runner.node.kept (Starts 0)).kept.held → ⊥
         given_none runner true h among = among
         given_none runner false h among = among
 
