@@ -16,7 +16,7 @@ use Rattle.script_world.specs.Prints.{WorldPrint, world_line, world_text}
 use Rattle.script_world.specs.Script.{Joins, Stage, Stepped, after, prints_from, step_by, step_of}
 use Rattle.script_world.specs.World.{NodeInput, opened, setup_of}
 use Rattle.world_fates.proofs.Answering.{joins_more}
-use Rattle.octet_laws.specs.Cancels.{heard_behind, heard_on, heard_then, written_by, written_then}
+use Rattle.octet_laws.specs.Cancels.{LinesWriteOn, heard_behind, heard_on, heard_then, written_by, written_then}
 use Rattle.octet_laws.proofs.Ties.{Hears}
 use Rattle.octet_laws.proofs.Walks.{IsShort, WorldHears, line_so}
 
@@ -78,6 +78,34 @@ joined_or (line ∷ lines) first = by_step (step_of script_settings first line) 
       | inr same ↦ inr (λ more.
           ap (then_prints (lines ++ more)) is ∙ ap (λ (others : List WorldPrint). done.prints ++ others) (same more) ∙ sym (ap (then_prints lines) is))
     ]
+
+joined_more : (first : Stage) (lines : List (List ℕ)) (came : List NodeInput) (prints : List WorldPrint) (last : Stage) →
+    Joins script_settings first lines came prints last → (more : List (List ℕ)) →
+    prints_from script_settings first (lines ++ more) ≡ prints ++ prints_from script_settings last more
+unfolding Joins prints_from
+joined_more first [] came prints last joins more =
+    ap (λ (stage : Stage). prints_from script_settings stage more) (sym joins.2)
+    ∙ ap (λ (p : List WorldPrint). p ++ prints_from script_settings last more) (sym joins.1)
+joined_more first (line ∷ lines) came prints last joins more =
+    ap (λ (found : Option Stepped). after [] (λ (done : Stepped). done.prints ++ prints_from script_settings done.stage (lines ++ more)) found) joins.3
+    ∙ ap (λ (others : List WorldPrint). joins.0.prints ++ others) (joined_more joins.0.stage lines joins.1 joins.2 last joins.6 more)
+    ∙ sym (append_assoc joins.0.prints joins.2 (prints_from script_settings last more))
+    ∙ ap (λ (p : List WorldPrint). p ++ prints_from script_settings last more) (sym joins.5)
+
+pub write_on : LinesWriteOn
+write_on = record {
+  whole = λ script. refl;
+  begins = λ before later. elim (joined_or before None) [
+    | inl joined ↦ (
+      world_text (prints_from script_settings joined.last later),
+      ap world_text (joined_more None before joined.came joined.prints joined.last joined.joins later)
+          ∙ text_both joined.prints (prints_from script_settings joined.last later)
+          ∙ ap (λ (p : List WorldPrint). world_text p ++ world_text (prints_from script_settings joined.last later))
+          (sym (joined_prints None before joined.came joined.prints joined.last joined.joins)),
+    )
+    | inr same ↦ ([], ap world_text (same later) ∙ sym (append-nil (written_by before)))
+  ];
+}
 
 -- a line that stands behind lines that join
 pub then_written : (before : List (List ℕ)) (came : List NodeInput) (prints : List WorldPrint) (last : Stage) (line : List ℕ) (done : Stepped) →

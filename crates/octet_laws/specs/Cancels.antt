@@ -15,7 +15,7 @@ use Rattle.script_lines.specs.Lines.{lines_of}
 use Rattle.script_lines.specs.Said.{Grant, IsSession, Octets, Said, said_of}
 use Rattle.script_text.specs.Settings.{script_settings}
 use Rattle.script_world.specs.Prints.{world_text}
-use Rattle.script_world.specs.Script.{prints_from}
+use Rattle.script_world.specs.Script.{prints_from, text_of}
 use Rattle.octet_laws.specs.Tellings.{IsPdu, IsPduLine, esme_rok, query_sm_resp}
 
 -- ---- what lines write
@@ -23,6 +23,11 @@ use Rattle.octet_laws.specs.Tellings.{IsPdu, IsPduLine, esme_rok, query_sm_resp}
 -- the text of a script of these lines: `text_of script` is `written_by (lines_of script)`
 abbrev pub written_by : List (List ℕ) → List ℕ
 written_by lines = world_text (prints_from script_settings None lines)
+
+-- That is so, and what the first lines of a script write is the beginning of what it writes.
+pub record LinesWriteOn : Type 0 where
+  pub whole : (script : List ℕ) → text_of script ≡ written_by (lines_of script)
+  pub begins : (before later : List (List ℕ)) → (more : List ℕ) × (written_by (before ++ later) ≡ written_by before ++ more)
 
 -- the lines that one more line writes
 abbrev pub written_then : List (List ℕ) → List ℕ → List (List ℕ)
