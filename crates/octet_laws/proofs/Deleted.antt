@@ -10,7 +10,7 @@ use Rattle.pdu_frames.specs.Frames.{cut}
 use Rattle.script_lines.specs.Said.{IsSession}
 use Rattle.mc_model.specs.node.Grant.{GrantRefusal}
 use Rattle.mc_model.specs.synod.Lists.{In}
-use Rattle.mc_parts.proofs.Membership.{in_right}
+use Rattle.mc_parts.proofs.Membership.{in_left, in_right}
 use Rattle.node_model.specs.Attempts.{grant_refusal}
 use Rattle.node_model.specs.Granted.{known_slot}
 use Rattle.pdu_bodies.specs.declared.pdu.Pdu.{Pdu}
@@ -25,15 +25,17 @@ use Rattle.script_world.specs.World.{Moved, NodeInput, World, grants, is_down, i
 use Rattle.world_fates.proofs.Answering.{joins_more}
 use Rattle.world_fates.specs.Questions.{IsAskedAt}
 use Rattle.world_fates.proofs.Fresh.{later_queries}
+use Rattle.world_fates.proofs.Printing.{first_so}
 use Rattle.world_fates.proofs.Granting.{attempts_refused}
 use Rattle.world_fates.proofs.Lines.{printed_at}
 use Rattle.octet_laws.specs.Cancels.{ACancelledMessageStaysDeleted, HasSequence, IsGrantedNoMore, IsToldDeleted, heard_on}
 use Rattle.octet_laws.proofs.Cancelled.{IsCancelled, heard_octets, is_cancelled, least_node, none_framed}
 use Rattle.octet_laws.proofs.Fates.{lines_tell}
 use Rattle.octet_laws.proofs.Lines.{brought_by, session_of}
+use Rattle.octet_laws.proofs.Printed.{MadeFrom, made_takes, made_telling}
 use Rattle.octet_laws.proofs.Reading.{has_sequence, header_read}
 use Rattle.octet_laws.proofs.Streams.{octets_of_none}
-use Rattle.octet_laws.proofs.Written.{lines_hear, written_so}
+use Rattle.octet_laws.proofs.Written.{IsWritten, lines_hear, written_so}
 
 -- ---- lines that stand behind lines that join
 
@@ -68,6 +70,31 @@ joins_behind first (line ∷ before) came prints middle joins lines all whole la
       whole_is = more.5 ∙ ap (λ (d : Stepped). d.prints ++ more.2) same ∙ ap (λ (p : List WorldPrint). joins.0.prints ++ p) rest.whole_is
           ∙ sym (append_assoc joins.0.prints joins.2 rest.others) ∙ ap (λ (p : List WorldPrint). p ++ rest.others) (sym joins.5);
     }
+
+-- the first of them join, too
+pub record IsFront (first : Stage) (before : List (List ℕ)) : Type 0 where
+  pub came : List NodeInput
+  pub prints : List WorldPrint
+  pub middle : Stage
+  pub joins : Joins script_settings first before came prints middle
+
+joins_front : (first : Stage) (before lines : List (List ℕ)) (all : List NodeInput) (whole : List WorldPrint) (last : Stage) →
+    Joins script_settings first (before ++ lines) all whole last → IsFront first before
+unfolding Joins
+joins_front first [] lines all whole last more = record { came = []; prints = []; middle = first; joins = (refl, refl, refl) }
+joins_front first (line ∷ before) lines all whole last more =
+    let rest = joins_front more.0.stage before lines more.1 more.2 last more.6 in
+    record {
+      came = more.0.inputs ++ rest.came;
+      prints = more.0.prints ++ rest.prints;
+      middle = rest.middle;
+      joins = (more.0, rest.came, rest.prints, more.3, refl, refl, rest.joins);
+    }
+
+-- lines that lead to no world print nothing
+nothing_printed : (lines : List (List ℕ)) (came : List NodeInput) (prints : List WorldPrint) → Joins script_settings None lines came prints None → prints ≡ []
+nothing_printed lines came prints joins =
+    first_so script_settings (λ cluster. MadeFrom) made_telling (λ cluster. made_takes) lines came prints None joins
 
 -- ---- a line that asks for an attempt
 
@@ -172,18 +199,17 @@ module _ (before : List (List ℕ)) (line : List ℕ) (node session sequence : �
 
   -- ---- and told DELETED
 
-  joins_next : Joins script_settings None lines (it.came ++ it.done.inputs) (it.prints ++ it.done.prints) (Some it.next)
-  joins_next = subst (Joins script_settings None lines (it.came ++ it.done.inputs) (it.prints ++ it.done.prints)) it.next_is joins_now
-
   -- what waited came in octets
-  none_waited : (other number : ℕ) → 1 ≤ other → (sequence : ℕ) → IsAskedAt it.next other number sequence → (there at : ℕ) → IsNode there → IsSession at →
-      decimal other ≡ decimal there → decimal number ≡ decimal at → (also : ℕ) → to_be_bytes w32 sequence ≡ to_be_bytes w32 also →
-      ((frame : List ℕ) → In frame (cut (heard_on there at lines)).frames → HasSequence frame also → ⊥) → ⊥
-  none_waited other number least sequence asked there at is_node is_session nodes sessions also bytes none =
-      let hears = lines_hear other number least lines _ _ (Some it.next) joins_next in
-      let stream = heard_on other number lines in
+  none_waited : (front : List (List ℕ)) (came : List NodeInput) (prints : List WorldPrint) (world : World) →
+      Joins script_settings None front came prints (Some world) → (other number : ℕ) → 1 ≤ other → (sequence : ℕ) → IsAskedAt world other number sequence →
+      (there at : ℕ) → IsNode there → IsSession at → decimal other ≡ decimal there → decimal number ≡ decimal at → (also : ℕ) →
+      to_be_bytes w32 sequence ≡ to_be_bytes w32 also →
+      ((frame : List ℕ) → In frame (cut (heard_on there at front)).frames → HasSequence frame also → ⊥) → ⊥
+  none_waited front came prints world joins other number least sequence asked there at is_node is_session nodes sessions also bytes none =
+      let hears = lines_hear other number least front came prints (Some world) joins in
+      let stream = heard_on other number front in
       let tied = ((hears.0 asked.runner asked.there).sound.each asked.session asked.connected).tied asked.request asked.waits in
-      let has = has_sequence stream (heard_octets other number [] [] lines octets_of_none) tied.frame tied.among tied.pdu tied.reads also
+      let has = has_sequence stream (heard_octets other number [] [] front octets_of_none) tied.frame tied.among tied.pdu tied.reads also
       (ap (to_be_bytes w32) (tied.sequence_is ∙ asked.sequence_is) ∙ bytes) in
       elim hears.1 [
         | inl nothing ↦ none_framed tied.frame (subst (λ (s : List ℕ). In tied.frame (cut s).frames) nothing tied.among)
@@ -191,42 +217,57 @@ module _ (before : List (List ℕ)) (line : List ℕ) (node session sequence : �
             let one = decimal_injective other there small.0 (let most = is_node.most in omega (arith, most)) nodes in
             let two = decimal_injective number at small.1 (let most = is_session.most in omega (arith, most)) sessions in
             none tied.frame
-            (subst (λ (n : ℕ). In tied.frame (cut (heard_on n at lines)).frames) one
-            (subst (λ (s : ℕ). In tied.frame (cut (heard_on other s lines)).frames) two tied.among)) has
+            (subst (λ (n : ℕ). In tied.frame (cut (heard_on n at front)).frames) one
+            (subst (λ (s : ℕ). In tied.frame (cut (heard_on other s front)).frames) two tied.among)) has
       ]
 
   pub told_deleted : IsToldDeleted lines it.message_id
-  told_deleted later asking there at octets answer w spelled message none =
-      let so = written_so (lines ++ later) asking w.written w.among in
-      let of_line = brought_by so.done.prints w.written octets (subst (In w.written) so.written_is w.among) w.is_pdu in
-      let brings = of_line.brings in
-      let print = brings.printed in
-      let here = subst (λ (p : WorldPrint). In p so.done.prints) brings.print_is of_line.among in
-      let whole = joins_more script_settings None so.joined.last (lines ++ later) so.joined.came so.joined.prints asking so.done so.joined.joins so.does in
-      let tells = lines_tell ((lines ++ later) ++ asking ∷ []) _ _ so.done.stage whole brings.node print brings.pdu octets it.message_id answer.message_state
-      (in_right (At brings.node print) so.joined.prints so.done.prints here) brings.pdu_is brings.octets_are answer spelled message refl in
-      let behind = joins_behind None lines _ _ (Some it.next) joins_next later so.joined.came so.joined.prints so.joined.last so.joined.joins in
-      let more = joins_more script_settings (Some it.next) so.joined.last later behind.coming behind.others asking so.done behind.joins so.does in
-      let nodes = brings.node_text ∙ ap decimal w.node_is in
-      let least = least_node there brings.node w.is_node nodes in
-      let header = header_read brings.pdu octets brings.octets_are _ _ spelled.sequence _ spelled.octets_are in
-      elim (later_queries script_settings lines (later ++ asking ∷ []) _ _ _ _ it.next so.done.stage node brings.node (Late session it.id it.pdu) print
-      it.message_id
-      4 answer.message_state joins_next more least printed_now (in_right (At brings.node print) behind.others so.done.prints here) states_now tells) [
-        | inl same ↦ same
-        | inr waited ↦
-            let pdu : waited.pdu ≡ brings.pdu = some_pdu waited.pdu brings.pdu (sym (ap pdu_in waited.printed) ∙ brings.pdu_is) in
-            let number : waited.session ≡ brings.session = some_number waited.session brings.session (sym (ap session_of waited.printed) ∙ brings.session_is) in
-            absurd (none_waited brings.node waited.session least waited.pdu.sequence waited.asked there at w.is_node w.is_session nodes
-            (ap decimal number ∙ brings.session_text ∙ ap decimal w.session_is) spelled.sequence
-            (ap (λ (p : Pdu). to_be_bytes w32 p.sequence) pdu ∙ header.sequence_is) none)
-      ]
+  told_deleted meanwhile later asking there at octets answer w spelled message none =
+      let so = written_so ((lines ++ meanwhile) ++ later) asking w.written w.among in
+      let front = joins_front None (lines ++ meanwhile) later so.joined.came so.joined.prints so.joined.last so.joined.joins in
+      let since = joins_behind None lines _ _ it.done.stage joins_now meanwhile front.came front.prints front.middle front.joins in
+      by_middle so front.came front.prints front.middle front.joins
+      (subst (In (At node print_now)) (sym since.whole_is) (in_left (At node print_now) (it.prints ++ it.done.prints) since.others printed_now))
     where
+      print_now : Print
+      print_now = Late session it.id it.pdu
+
       some_pdu : (one other : Pdu) → Some one ≡ Some other → one ≡ other
       some_pdu one other is = cc
 
       some_number : (one other : ℕ) → Some one ≡ Some other → one ≡ other
       some_number one other is = cc
+
+      by_middle : IsWritten ((lines ++ meanwhile) ++ later) asking → (came : List NodeInput) (prints : List WorldPrint) (middle : Stage) →
+          Joins script_settings None (lines ++ meanwhile) came prints middle → In (At node print_now) prints → answer.message_state ≡ 4
+      by_middle so came prints None joins printed = absurd (subst (In (At node print_now)) (nothing_printed (lines ++ meanwhile) came prints joins) printed)
+      by_middle so came prints (Some world) joins printed =
+          let of_line = brought_by so.done.prints w.written octets (subst (In w.written) so.written_is w.among) w.is_pdu in
+          let brings = of_line.brings in
+          let print = brings.printed in
+          let here = subst (λ (p : WorldPrint). In p so.done.prints) brings.print_is of_line.among in
+          let whole = joins_more script_settings None so.joined.last ((lines ++ meanwhile) ++ later) so.joined.came so.joined.prints asking so.done
+          so.joined.joins so.does in
+          let tells = lines_tell (((lines ++ meanwhile) ++ later) ++ asking ∷ []) _ _ so.done.stage whole brings.node print brings.pdu octets it.message_id
+          answer.message_state (in_right (At brings.node print) so.joined.prints so.done.prints here) brings.pdu_is brings.octets_are answer spelled message
+          refl in
+          let behind = joins_behind None (lines ++ meanwhile) came prints (Some world) joins later so.joined.came so.joined.prints so.joined.last
+          so.joined.joins in
+          let more = joins_more script_settings (Some world) so.joined.last later behind.coming behind.others asking so.done behind.joins so.does in
+          let nodes = brings.node_text ∙ ap decimal w.node_is in
+          let least = least_node there brings.node w.is_node nodes in
+          let header = header_read brings.pdu octets brings.octets_are _ _ spelled.sequence _ spelled.octets_are in
+          elim (later_queries script_settings (lines ++ meanwhile) (later ++ asking ∷ []) came _ prints _ world so.done.stage node brings.node print_now print
+          it.message_id 4 answer.message_state joins more least printed (in_right (At brings.node print) behind.others so.done.prints here) states_now tells) [
+            | inl same ↦ same
+            | inr waited ↦
+                let pdu : waited.pdu ≡ brings.pdu = some_pdu waited.pdu brings.pdu (sym (ap pdu_in waited.printed) ∙ brings.pdu_is) in
+                let number : waited.session ≡ brings.session =
+                some_number waited.session brings.session (sym (ap session_of waited.printed) ∙ brings.session_is) in
+                absurd (none_waited (lines ++ meanwhile) came prints world joins brings.node waited.session least waited.pdu.sequence waited.asked there at
+                w.is_node w.is_session nodes (ap decimal number ∙ brings.session_text ∙ ap decimal w.session_is) spelled.sequence
+                (ap (λ (p : Pdu). to_be_bytes w32 p.sequence) pdu ∙ header.sequence_is) none)
+          ]
 
 -- ---- the law
 

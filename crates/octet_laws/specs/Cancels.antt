@@ -112,15 +112,15 @@ pub record HasSequence (octets : List ℕ) (sequence : ℕ) : Type 0 where
   pub body : List ℕ
   pub octets_are : octets ≡ framed command status sequence body
 
--- A later query_sm_resp with ESME_ROK for the message (SMPP 3.4, 4.8.2) tells DELETED (5.2.28), if on its session, since that began, nothing with its
--- sequence_number had come by these lines.
+-- A later query_sm_resp with ESME_ROK for the message (SMPP 3.4, 4.8.2) tells DELETED (5.2.28), if its query_sm came later: at some time after these
+-- lines nothing with its sequence_number had come on its session since that began.
 abbrev pub IsToldDeleted : List (List ℕ) → List ℕ → Type 0
 IsToldDeleted lines message_id =
-    (later : List (List ℕ)) (line : List ℕ) (node session : ℕ) (octets : List ℕ) (answer : QueryAnswer)
-    → Writes (lines ++ later) line node session octets
+    (meanwhile later : List (List ℕ)) (line : List ℕ) (node session : ℕ) (octets : List ℕ) (answer : QueryAnswer)
+    → Writes ((lines ++ meanwhile) ++ later) line node session octets
     → (pdu : IsPdu octets query_sm_resp esme_rok query_answer_parts (query_answer_contents answer))
     → answer.message_id ≡ message_id
-    → ((frame : List ℕ) → In frame (cut (heard_on node session lines)).frames → HasSequence frame pdu.sequence → ⊥)
+    → ((frame : List ℕ) → In frame (cut (heard_on node session (lines ++ meanwhile))).frames → HasSequence frame pdu.sequence → ⊥)
     → answer.message_state ≡ 4
 
 -- ---- the law

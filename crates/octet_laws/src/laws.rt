@@ -16,8 +16,8 @@ pub fn what_is_read_is_spelled()
 {}
 
 /// Each cancel_sm_resp with ESME_ROK that a script writes (SMPP 3.4, 4.9.2) answers a cancel_sm (SMPP 3.4, 4.9.1) that came on its session, with its
-/// sequence_number. After the line by which it is written no later line that asks for an attempt of the message of that cancel_sm writes a deliver_sm, and
-/// each query_sm_resp with ESME_ROK for the message (SMPP 3.4, 4.8.2) tells DELETED, if nothing with its sequence_number had come on its session before.
+/// sequence_number. After the line by which it is written no line that asks for an attempt of the message of that cancel_sm writes a deliver_sm, and each
+/// query_sm_resp with ESME_ROK for the message (SMPP 3.4, 4.8.2) to a query_sm that came later tells DELETED.
 pub fn a_cancelled_message_stays_deleted()
     ensures { ACancelledMessageStaysDeleted }
 {}
