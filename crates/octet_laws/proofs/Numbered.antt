@@ -9,14 +9,11 @@ use Rattle.std.proofs.lemmas.Bool.Decides.{nat_tests}
 use Rattle.mc_model.specs.synod.Lists.{In}
 use Rattle.world_fates.proofs.Entries.{AreApart, Has, found_entry, none_left}
 
-is_here : (j k : ℕ) → is_eq (nat_cmp j k) ≡ true → j ≡ k
-is_here j k is = grind (arith, nat_tests, is)
-
 not_here : (j k : ℕ) → (j ≡ k → ⊥) → is_eq (nat_cmp j k) ≡ false
 not_here j k apart = by_test (is_eq (nat_cmp j k)) refl
   where
     by_test : (test : Bool) → is_eq (nat_cmp j k) ≡ test → test ≡ false
-    by_test true is = absurd (apart (is_here j k is))
+    by_test true is = absurd (apart (grind (arith, nat_tests, is)))
     by_test false is = refl
 
 module _ {X : Type 0} where
@@ -28,7 +25,7 @@ module _ {X : Type 0} where
       by_test : (test : Bool) → is_eq (nat_cmp number e.0) ≡ test →
           lookup (is_at (nat_cmp other)) (remove_entry (is_at (nat_cmp number)) es) ≡ lookup (is_at (nat_cmp other)) es →
           lookup (is_at (nat_cmp other)) (cond test es (e ∷ remove_entry (is_at (nat_cmp number)) es)) ≡ lookup (is_at (nat_cmp other)) (e ∷ es)
-      by_test true is behind = rw (not_here other e.0 (λ same. apart (is_here number e.0 is ∙ sym same))) refl
+      by_test true is behind = let here : number ≡ e.0 = grind (arith, nat_tests, is) in rw (not_here other e.0 (λ same. apart (here ∙ sym same))) refl
       by_test false is behind = ap (λ (found : Option X). cond (is_eq (nat_cmp other e.0)) (Some e.1) found) behind
 
   pub none_there : (number : ℕ) (es : List (ℕ × X)) → (Has es number → ⊥) → lookup (is_at (nat_cmp number)) es ≡ None
@@ -58,7 +55,8 @@ module _ {X : Type 0} where
     where
       by_test : (test : Bool) → is_eq (nat_cmp number e.0) ≡ test → (Has es other → Has (remove_entry (is_at (nat_cmp number)) es) other) →
           In (other, has.value) (e ∷ es) → Has (cond test es (e ∷ remove_entry (is_at (nat_cmp number)) es)) other
-      by_test true is behind (inl same) = absurd (apart (is_here number e.0 is ∙ sym (ap (λ (x : ℕ × X). x.0) same)))
+      by_test true is behind (inl same) =
+          let here : number ≡ e.0 = grind (arith, nat_tests, is) in absurd (apart (here ∙ sym (ap (λ (x : ℕ × X). x.0) same)))
       by_test true is behind (inr later) = record { value = has.value; among = later }
       by_test false is behind (inl same) = record { value = has.value; among = inl same }
       by_test false is behind (inr later) = let it = behind (record { value = has.value; among = later }) in record { value = it.value; among = inr it.among }

@@ -3,6 +3,7 @@ use Rattle.std.proofs.Common.{◌≡◌, ◌⊎◌, ℕ, Bool, true, false, List
 use Rattle.std.specs.Prelude.{◌||◌, is_none}
 use Rattle.std.specs.List.{list_any}
 use Rattle.std.specs.Str.{bytes_eq}
+use Rattle.std.proofs.lemmas.Bool.{or_cases}
 use Rattle.std.proofs.lemmas.Slice.Eq.{bytes_eq-Decides}
 use Rattle.mc_model.specs.message.Submission.{Submission}
 use Rattle.mc_model.specs.synod.Lists.{In}
@@ -34,13 +35,9 @@ use Rattle.octet_laws.proofs.Ties.{IsPlain, IsRight, all_posted_posts, plain_rig
 
 -- ---- a line among others
 
-any_first : (one other : Bool) → (one || other) ≡ true → (one ≡ true) ⊎ (other ≡ true)
-any_first true other is = inl refl
-any_first false other is = inr is
-
 pub any_in : (line : List ℕ) (lines : List (List ℕ)) → list_any (bytes_eq line) lines ≡ true → In line lines
 any_in line [] is = absurd cc
-any_in line (first ∷ lines) is = elim (any_first (bytes_eq line first) (list_any (bytes_eq line) lines) is) [
+any_in line (first ∷ lines) is = elim (or_cases (bytes_eq line first) (list_any (bytes_eq line) lines) is) [
   | inl same ↦ inl ((bytes_eq-Decides line first).0 same)
   | inr later ↦ inr (any_in line lines later)
 ]

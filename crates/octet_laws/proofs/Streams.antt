@@ -2,6 +2,7 @@
 use Rattle.std.proofs.Common.{◌≡◌, ℕ, zero, suc, ◌<◌, List, [], ◌∷◌, ◌++◌, arith, sym, ap, subst, ◌∙◌, append_assoc, inl, inr}
 use Rattle.mc_model.specs.synod.Lists.{In}
 use Rattle.octet_fields.specs.Texts.{IsOctets}
+use Rattle.octet_fields.proofs.Octets.{IsOctets-before, IsOctets-behind}
 use Rattle.pdu_frames.specs.Frames.{AreFrames, cut}
 use Rattle.pdu_frames.proofs.Streams.{frames_one, streams_cut}
 
@@ -33,14 +34,6 @@ octets_then : (octet : ℕ) (octets : List ℕ) → octet < 256 → IsOctets oct
 octets_then octet octets below are zero = below
 octets_then octet octets below are (suc place) = are place
 
-pub octets_front : (front back : List ℕ) → IsOctets (front ++ back) → IsOctets front
-octets_front [] back are = octets_of_none
-octets_front (octet ∷ front) back are = octets_then octet front (are zero) (octets_front front back (λ place. are (suc place)))
-
-octets_back : (front back : List ℕ) → IsOctets (front ++ back) → IsOctets back
-octets_back [] back are = are
-octets_back (octet ∷ front) back are = octets_back front back (λ place. are (suc place))
-
 pub octets_both : (front back : List ℕ) → IsOctets front → IsOctets back → IsOctets (front ++ back)
 octets_both [] back are more = more
 octets_both (octet ∷ front) back are more = octets_then octet (front ++ back) (are zero) (octets_both front back (λ place. are (suc place)) more)
@@ -49,9 +42,9 @@ frames_octets : (frames : List (List ℕ)) (stream rest : List ℕ) → AreFrame
     IsOctets frame
 frames_octets [] stream rest are octets frame among = absurd among
 frames_octets (first ∷ frames) stream rest are octets frame (inl same) =
-    subst IsOctets (sym same) (octets_front first are.1.0 (subst IsOctets are.1.1 octets))
+    subst IsOctets (sym same) (IsOctets-before first are.1.0 (subst IsOctets are.1.1 octets))
 frames_octets (first ∷ frames) stream rest are octets frame (inr later) =
-    frames_octets frames are.1.0 rest are.1.2 (octets_back first are.1.0 (subst IsOctets are.1.1 octets)) frame later
+    frames_octets frames are.1.0 rest are.1.2 (IsOctets-behind first are.1.0 (subst IsOctets are.1.1 octets)) frame later
 
 -- each frame of octets is of octets
 pub cut_octets : (stream : List ℕ) → IsOctets stream → (frame : List ℕ) → In frame (cut stream).frames → IsOctets frame

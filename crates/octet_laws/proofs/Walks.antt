@@ -5,6 +5,7 @@ use Rattle.std.specs.Prelude.{◌==◌, ◌&&◌, codes, if◌then◌else◌, no
 use Rattle.std.specs.Fmt.{decimal, digits}
 use Rattle.std.specs.List.{list_any, range_with_len}
 use Rattle.std.specs.Str.{bytes_eq}
+use Rattle.std.proofs.lemmas.Bool.{false_from_ne_true, true_from_ne_false}
 use Rattle.std.proofs.lemmas.Fmt.{decimal_injective}
 use Rattle.mc_model.specs.synod.Lists.{In}
 use Rattle.mc_model.specs.synod.Packet.{Packet}
@@ -412,27 +413,19 @@ module _ (m number : ℕ) (least_m : 1 ≤ m) where
 
             by_result : Ends number own ⊎ Lasts number (stream ++ octets) own → LineSo stream says (done_by moved)
             by_result (inl ends) =
-                line_by true _ (is_true (list_any (bytes_eq (gone_line m number)) (written_in moved.prints))
+                line_by true _ (true_from_ne_false (list_any (bytes_eq (gone_line m number)) (written_in moved.prints))
                 (λ none. in_any (gone_line m number) (written_in moved.prints) (gone_written moved.prints m number gone_in) none)) refl
                 (next_is [] ends.hears) answers_only
               where
-                is_true : (test : Bool) → (test ≡ false → ⊥) → test ≡ true
-                is_true true never = refl
-                is_true false never = absurd (never refl)
-
                 gone_in : In (At m (Gone number)) moved.prints
                 gone_in = subst (λ (n : ℕ). In (At n (Gone number)) moved.prints) same
                     (in_printed node (Gone number) acted.prints (subst (λ (a : Acted). In (Gone number) a.prints) (sym acted_is) ends.told))
             by_result (inr lasts) =
-                line_by false false (is_false _ (λ yes. not_gone (any_in (gone_line m number) (written_in moved.prints) yes)))
-                (is_false _ (λ yes. not_refused (any_in (codes "refused 4") (written_in moved.prints) yes)))
+                line_by false false (false_from_ne_true _ (λ yes. not_gone (any_in (gone_line m number) (written_in moved.prints) yes)))
+                (false_from_ne_true _ (λ yes. not_refused (any_in (codes "refused 4") (written_in moved.prints) yes)))
                 (next_is (stream ++ (if node == m && (at == number && true) then octets else []))
                 (subst (λ (more : List ℕ). Hears number (stream ++ more) own.next) (sym brings) lasts.hears)) answers_only
               where
-                is_false : (test : Bool) → (test ≡ true → ⊥) → test ≡ false
-                is_false false never = refl
-                is_false true never = absurd (never refl)
-
                 brings : (if node == m && (at == number && true) then octets else []) ≡ octets
                 brings = rw (eq-eqb node m same, eq-eqb at number also) refl
 
