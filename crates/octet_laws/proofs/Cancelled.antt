@@ -22,9 +22,9 @@ use Rattle.script_lines.proofs.SaidLemmas.{spelled_so}
 use Rattle.script_text.specs.Laws.{pdu_in}
 use Rattle.script_text.specs.Prints.{AtOnce, Declined, Delivers, Gone, Late, Print, Reports, Ungranted, Unsettled, report_pdu}
 use Rattle.script_text.specs.Settings.{script_settings}
-use Rattle.script_world.specs.Prints.{At, WorldPrint, world_text}
-use Rattle.script_world.specs.Script.{Joins, Stage, Stepped, step_by, step_of}
-use Rattle.script_world.specs.World.{NodeInput, World}
+use Rattle.script_text.specs.Prints.{At, WorldPrint, world_text}
+use Rattle.script_text.specs.Script.{Joins, Stage, Stepped, step_by, step_of}
+use Rattle.script_text.specs.World.{NodeInput, World}
 use Rattle.octet_laws.specs.Cancels.{CancelCame, IsCancelAnswer, Writes, brought, gone_line, heard_behind, heard_on, heard_then, written_then}
 use Rattle.octet_laws.proofs.Lines.{brought_by, session_of}
 use Rattle.octet_laws.proofs.Reading.{cancel_came, cancelled_read, header_read, status_zero}
@@ -160,7 +160,7 @@ pub record IsCancelled (before : List (List ℕ)) (line : List ℕ) (node sessio
   pub done : Stepped
   pub does : step_of script_settings (Some world) line ≡ Some done
   pub next : World
-  pub next_is : done.stage ≡ Some next
+  pub next_is : done.next ≡ Some next
   pub id : ℕ
   pub pdu : Pdu
   pub printed : In (At node (Late session id pdu)) done.prints
@@ -198,7 +198,7 @@ module _ (before : List (List ℕ)) (line : List ℕ) (node session sequence : �
       the_same : (m number : ℕ) (least : 1 ≤ m) → IsShort m number least (heard_on m number before) → decimal m ≡ decimal w.is_pdu.node →
           decimal number ≡ decimal w.is_pdu.session → (came : List NodeInput) (prints : List WorldPrint) (world : World) →
           Joins script_settings None before came prints (Some world) → (done : Stepped) → step_of script_settings (Some world) line ≡ Some done →
-          (next : World) → done.stage ≡ Some next → (id : ℕ) (pdu : Pdu) → In (At m (Late number id pdu)) done.prints →
+          (next : World) → done.next ≡ Some next → (id : ℕ) (pdu : Pdu) → In (At m (Late number id pdu)) done.prints →
           pdu.status ≡ status_code statuses.Ok → pdu.body ≡ CancelSmResp → IsAnswer (heard_on m number before) pdu.sequence id →
           to_be_bytes w32 pdu.sequence ≡ to_be_bytes w32 sequence → IsCancelled before line node session sequence
       the_same m number least short nodes sessions came prints world joins done does next next_is id pdu printed status body answer bytes = elim short [

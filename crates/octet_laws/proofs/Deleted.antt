@@ -19,9 +19,9 @@ use Rattle.script_text.specs.Laws.{StatesFate, pdu_in}
 use Rattle.script_text.specs.Prints.{Late, Print, Ungranted}
 use Rattle.script_text.specs.Runner.{Runner, granted_unless, on_grant}
 use Rattle.script_text.specs.Settings.{script_settings}
-use Rattle.script_world.specs.Prints.{At, Refuses, WorldPrint}
-use Rattle.script_world.specs.Script.{Joins, Stage, Stepped, nodes_of, step_by, step_of}
-use Rattle.script_world.specs.World.{Moved, NodeInput, World, grants, is_down, is_up, no_node, refuses, runner_at, shared, up_or_refuses}
+use Rattle.script_text.specs.Prints.{At, Refuses, WorldPrint}
+use Rattle.script_text.specs.Script.{Joins, Stage, Stepped, nodes_of, step_by, step_of}
+use Rattle.script_text.specs.World.{Moved, NodeInput, World, grants, is_down, is_up, no_node, refuses, runner_at, shared, up_or_refuses}
 use Rattle.world_fates.proofs.Answering.{joins_more}
 use Rattle.world_fates.specs.Questions.{IsAskedAt}
 use Rattle.world_fates.proofs.Fresh.{later_queries}
@@ -61,8 +61,8 @@ joins_behind first [] came prints middle joins lines all whole last more = recor
 }
 joins_behind first (line ∷ before) came prints middle joins lines all whole last more =
     let same = some_same more.0 joins.0 (sym more.3 ∙ joins.3) in
-    let rest = joins_behind joins.0.stage before joins.1 joins.2 middle joins.6 lines more.1 more.2 last
-    (subst (λ (d : Stepped). Joins script_settings d.stage (before ++ lines) more.1 more.2 last) same more.6) in
+    let rest = joins_behind joins.0.next before joins.1 joins.2 middle joins.6 lines more.1 more.2 last
+    (subst (λ (d : Stepped). Joins script_settings d.next (before ++ lines) more.1 more.2 last) same more.6) in
     record {
       coming = rest.coming;
       others = rest.others;
@@ -189,7 +189,7 @@ module _ (before : List (List ℕ)) (line : List ℕ) (node session sequence : �
           done.inputs ≡ [] → (other : ℕ) (print : Print) (pdu : Pdu) → In (At other print) done.prints → pdu_in print ≡ Some pdu → ⊥
       at_stage None done within does none other print pdu among brings = absurd (let step = sym (ap (step_by script_settings None) within) ∙ does in cc)
       at_stage (Some world) done within does none other print pdu among brings =
-          let same = some_same (record { stage = Some moved.next; inputs = moved.inputs; prints = moved.prints }) done
+          let same = some_same (record { next = Some moved.next; inputs = moved.inputs; prints = moved.prints }) done
           (sym (ap (step_by script_settings (Some world)) within) ∙ does) in
           grants_none world there id (ap (λ (d : Stepped). d.inputs) same ∙ none) other print pdu
           (subst (λ (d : Stepped). In (At other print) d.prints) (sym same) among) brings

@@ -21,8 +21,8 @@ use Rattle.script_text.specs.Attempts.{all_given_up}
 use Rattle.script_text.specs.Pushes.{accounts_up, session_numbers, target_in}
 use Rattle.script_text.specs.Receipts.{all_posted, goes_out_up_to, posted_for_all}
 use Rattle.script_text.specs.Runner.{on_frame, on_frames, on_octets, told}
-use Rattle.script_world.specs.Script.{prints_from, step_of}
-use Rattle.script_world.specs.World.{due_among, settles}
+use Rattle.script_text.specs.Script.{prints_from, step_of}
+use Rattle.script_text.specs.World.{due_among, settles}
 use Rattle.world_fates.specs.Example.{its_message}
 use Rattle.octet_laws.specs.Cancels.{cancel_sm_resp, heard_behind}
 use Rattle.octet_laws.specs.Example.{ACancelIsAnswered, TwoLinesTellOneFate, answer_line, receipt_line}

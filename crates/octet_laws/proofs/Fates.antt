@@ -31,14 +31,14 @@ use Rattle.script_text.specs.Prints.{AtOnce, Declined, Delivers, Gone, Late, Pri
 use Rattle.script_text.specs.Pushes.{knows_optional, with_optional}
 use Rattle.script_text.specs.Responses.{final_date_of, reply_pdu}
 use Rattle.script_text.specs.Settings.{script_settings}
-use Rattle.script_world.specs.Prints.{At, WorldPrint}
-use Rattle.script_world.specs.Script.{Joins, Stage, prints_of, text_of}
-use Rattle.script_world.specs.World.{NodeInput as LineInput}
-use Rattle.fate_laws.proofs.Clear.{IsClear}
-use Rattle.fate_laws.proofs.Printing.{of_all}
-use Rattle.fate_laws.proofs.Submitted.{WasSubmitted}
-use Rattle.fate_laws.proofs.Telling.{refusal_delivers_none, refusal_tells_none}
-use Rattle.fate_laws.proofs.Tellings.{by_node}
+use Rattle.script_text.specs.Prints.{At, WorldPrint}
+use Rattle.script_text.specs.Script.{Joins, Stage, prints_of, text_of}
+use Rattle.script_text.specs.World.{NodeInput as LineInput}
+use Rattle.world_fates.proofs.node.Clear.{IsClear}
+use Rattle.world_fates.proofs.node.Once.{of_all}
+use Rattle.world_fates.proofs.node.Submitted.{WasSubmitted}
+use Rattle.world_fates.proofs.node.Telling.{refusal_delivers_none, refusal_tells_none}
+use Rattle.world_fates.proofs.node.Tellings.{by_node}
 use Rattle.world_fates.proofs.Fates.{one_fate}
 use Rattle.world_fates.proofs.Printing.{StageSo, first_so, good_lines}
 use Rattle.world_fates.proofs.Worlds.{told_by, told_by_all}

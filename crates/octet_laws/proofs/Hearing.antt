@@ -173,11 +173,11 @@ pub record IsBegun (frame : List ℕ) (kept next : Kept) (request : OpenRequest)
       Names pdu.body h.waiting.request
 
 pub record ServedSo (frame : List ℕ) (node : Node) (before : Session) (at : ℕ) (served : Served) : Type 0 where
-  pub on : GoesOn node.kept served.node.kept
-  pub requests : (request : OpenRequest) → In request served.session.requests →
-      In request before.requests ⊎ IsBegun frame node.kept served.node.kept request
-  pub gone : is_gone before.state ≡ false → is_gone served.session.state ≡ true → In (Gone at) served.prints
-  pub prints : (print : Print) → In print served.prints → IsPlain print ⊎ ((print ≡ Gone at) × (is_gone served.session.state ≡ true))
+  pub on : GoesOn node.kept served.next.node.kept
+  pub requests : (request : OpenRequest) → In request served.next.session.requests →
+      In request before.requests ⊎ IsBegun frame node.kept served.next.node.kept request
+  pub gone : is_gone before.state ≡ false → is_gone served.next.session.state ≡ true → In (Gone at) served.prints
+  pub prints : (print : Print) → In print served.prints → IsPlain print ⊎ ((print ≡ Gone at) × (is_gone served.next.session.state ≡ true))
 
 module _ (frame : List ℕ) (node : Node) (at : ℕ) (before : Session) where
   unasked_so : (done : Done) → ((request : OpenRequest) → In request done.next.requests → In request before.requests) → GoesSo before done →

@@ -32,7 +32,7 @@ use Rattle.node_model.specs.Rules.{Fitting, first_rule}
 use Rattle.node_model.specs.Starts.{delete_for, take_for}
 use Rattle.node_model.specs.Stepped.{saved_by, sender_of, stepped, stepped_down, stepped_up, stopped}
 use Rattle.node_model.specs.Ticks.{given_up, ids_of, is_late, late_reply, on_arrival, on_tick, ruled, ruled_each, ticked, waits_too}
-use Rattle.fate_laws.proofs.Posting.{found_in}
+use Rattle.world_fates.proofs.node.Posting.{found_in}
 
 -- ---- what is said of a step
 

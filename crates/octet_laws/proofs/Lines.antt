@@ -13,7 +13,7 @@ use Rattle.script_lines.specs.Lines.{IsOneLine, lines_of, onto_first}
 use Rattle.script_lines.proofs.LineLemmas.{lines_of-next}
 use Rattle.script_text.specs.Laws.{pdu_in}
 use Rattle.script_text.specs.Prints.{AtOnce, Declined, Delivers, Gone, Late, Print, Reports, Ungranted, Unsettled, gone_line, octets_line, report_pdu}
-use Rattle.script_world.specs.Prints.{At, Refuses, StopsSettling, WorldPrint, world_line, world_text}
+use Rattle.script_text.specs.Prints.{At, Refuses, StopsSettling, WorldPrint, world_line, world_text}
 use Rattle.octet_laws.specs.Tellings.{IsPduLine}
 use Rattle.octet_laws.proofs.Words.{IsFrontRead, Lacks, both_lack, cons_first, decimal_lacks, decoded, hex_lacks_feed, split, tests_lack}
 

@@ -16,10 +16,11 @@ use Rattle.pdu_frames.specs.Frames.{Cut, begins_wrong, cut, cut_within}
 use Rattle.sessions.specs.Session.{Session}
 use Rattle.sessions.specs.States.{is_gone}
 use Rattle.sessions.specs.declared.request.OpenRequest.{OpenRequest}
+use Rattle.script_text.specs.Left.{followed_by}
 use Rattle.script_text.specs.Prints.{Gone, Late, Print}
 use Rattle.script_text.specs.Pushes.{session_at}
 use Rattle.script_text.specs.Receipts.{Posted, posted_for_any}
-use Rattle.script_text.specs.Runner.{Acted, Runner, Served, ends, followed_by, held_in, holds, mail_of, on_frame, on_frames, on_octets, on_read, on_rest}
+use Rattle.script_text.specs.Runner.{Acted, Runner, Served, ends, held_in, holds, mail_of, on_frame, on_frames, on_octets, on_read, on_rest}
 use Rattle.script_text.specs.Runner.{opened_at, or_nothing, posts_for, put_at, served_at, serves, session_in, session_or_opened}
 use Rattle.script_text.specs.Settings.{Settings}
 use Rattle.world_fates.proofs.Entries.{AreApart, Has, found_entry, insert_apart, inserted_in, none_left, remove_apart, removed_in}
@@ -36,13 +37,13 @@ put_apart es at value apart = insert_apart (remove_entry (is_at (nat_cmp at)) es
 
 -- serving a session leaves the streams
 serves_streams : (runner : Runner) (at : ℕ) (served : Served) → (serves runner at served).next.streams ≡ runner.streams
-serves_streams runner at served = by_test (is_gone served.session.state)
+serves_streams runner at served = by_test (is_gone served.next.session.state)
   where
     next : Runner
-    next = record runner { node = served.node }
+    next = record runner { node = served.next.node }
 
     by_test : (gone : Bool) → (if gone then record next { sessions = remove_entry (is_at (nat_cmp at)) next.sessions }
-        else record next { sessions = put_at next.sessions at served.session }).streams ≡ runner.streams
+        else record next { sessions = put_at next.sessions at served.next.session }).streams ≡ runner.streams
     by_test true = refl
     by_test false = refl
 
@@ -79,13 +80,13 @@ module _ (number : ℕ) (stream : List ℕ) (settings : Settings) (at : ℕ) (ot
 
   served_other : (frame : List ℕ) (before : Session) (runner : Runner) (served : Served) → ServedSo frame runner.node before at served →
       Hears number stream runner → Keeps number stream (served_at runner at served)
-  served_other frame before runner served so hears = by_test (is_gone served.session.state)
+  served_other frame before runner served so hears = by_test (is_gone served.next.session.state)
     where
       next : Runner
-      next = record runner { node = served.node }
+      next = record runner { node = served.next.node }
 
-      sound : IsSound number stream served.node.kept runner.sessions
-      sound = sound_on number stream runner.node.kept served.node.kept runner.sessions so.on hears.sound
+      sound : IsSound number stream served.next.node.kept runner.sessions
+      sound = sound_on number stream runner.node.kept served.next.node.kept runner.sessions so.on hears.sound
 
       never : Gone at ≡ Gone number → at ≡ number
       never is = cc
@@ -101,20 +102,20 @@ module _ (number : ℕ) (stream : List ℕ) (settings : Settings) (at : ℕ) (ot
 
       by_test : (gone : Bool) → Keeps number stream (record {
         next = if gone then record next { sessions = remove_entry (is_at (nat_cmp at)) next.sessions }
-            else record next { sessions = put_at next.sessions at served.session };
+            else record next { sessions = put_at next.sessions at served.next.session };
         inputs = served.inputs;
         prints = served.prints;
       })
       by_test true = record {
         hears = record {
-          sound = sound_less number stream served.node.kept runner.sessions _ (removed_lessens runner.sessions) sound;
+          sound = sound_less number stream served.next.node.kept runner.sessions _ (removed_lessens runner.sessions) sound;
           held = hears.held;
         };
         fine = fine;
       }
       by_test false = record {
         hears = record {
-          sound = sound_less number stream served.node.kept runner.sessions _ (put_lessens runner.sessions served.session) sound;
+          sound = sound_less number stream served.next.node.kept runner.sessions _ (put_lessens runner.sessions served.next.session) sound;
           held = hears.held;
         };
         fine = fine;
@@ -125,8 +126,8 @@ module _ (number : ℕ) (stream : List ℕ) (settings : Settings) (at : ℕ) (ot
   serves_other frame before runner served so hears =
       let one = served_at runner at served in
       let here = served_other frame before runner served so hears in
-      keeps_then number stream one (posts_for one.next served.session.account) here
-      (posts_for_keep number stream one.next served.session.account here.hears)
+      keeps_then number stream one (posts_for one.next served.next.session.account) here
+      (posts_for_keep number stream one.next served.next.session.account here.hears)
 
   rest_other : (runner : Runner) (rest : List ℕ) → Hears number stream runner → (Has runner.streams at → ⊥) →
       Keeps number stream (on_rest settings at runner rest)
@@ -249,9 +250,9 @@ module _ (number : ℕ) (stream : List ℕ) (settings : Settings) where
     abbrev without : List (ℕ × Session)
     without = remove_entry (is_at (nat_cmp number)) runner.sessions
 
-    tied_now : (request : OpenRequest) → In request served.session.requests → IsTied stream served.node.kept request
+    tied_now : (request : OpenRequest) → In request served.next.session.requests → IsTied stream served.next.node.kept request
     tied_now request among = elim (so.requests request among) [
-      | inl old ↦ tied_on stream runner.node.kept served.node.kept request so.on (session_tied runner s.sound request old)
+      | inl old ↦ tied_on stream runner.node.kept served.next.node.kept request so.on (session_tied runner s.sound request old)
       | inr new ↦ record {
         below = new.below;
         frame = frame;
@@ -263,15 +264,15 @@ module _ (number : ℕ) (stream : List ℕ) (settings : Settings) where
       }
     ]
 
-    given_now : (h : Held) → In h served.node.kept.held → ticket_of h < served.node.kept.ticket
-    given_now = (sound_on number stream runner.node.kept served.node.kept runner.sessions so.on s.sound).given
+    given_now : (h : Held) → In h served.next.node.kept.held → ticket_of h < served.next.node.kept.ticket
+    given_now = (sound_on number stream runner.node.kept served.next.node.kept runner.sessions so.on s.sound).given
 
-    put_sound : is_gone served.session.state ≡ false → IsSound number stream served.node.kept (put_at runner.sessions number served.session)
+    put_sound : is_gone served.next.session.state ≡ false → IsSound number stream served.next.node.kept (put_at runner.sessions number served.next.session)
     put_sound stays = record {
       given = given_now;
-      there = inr (insert_here number served.session without);
+      there = inr (insert_here number served.next.session without);
       each = λ session among.
-          elim (inserted_in without number served.session (number, session) among) [
+          elim (inserted_in without number served.next.session (number, session) among) [
             | inl new ↦
                 let is = ap (λ (x : ℕ × Session). x.1) new in
                 record {
@@ -280,7 +281,7 @@ module _ (number : ℕ) (stream : List ℕ) (settings : Settings) where
                 }
             | inr old ↦ absurd (none_left number runner.sessions s.sound.apart (record { value = session; among = old }))
           ];
-      apart = put_apart runner.sessions number served.session s.sound.apart;
+      apart = put_apart runner.sessions number served.next.session s.sound.apart;
     }
 
     -- what waits for its account goes out behind what was printed
@@ -297,7 +298,7 @@ module _ (number : ℕ) (stream : List ℕ) (settings : Settings) where
         (elim both [
           | inl lasts ↦ inr (record {
             serving = record {
-              sound = sound_less number stream next.node.kept next.sessions posted.mail.sessions posts.lessens lasts.0;
+              sound = sound_less number stream next.node.kept next.sessions posted.next.sessions posts.lessens lasts.0;
               has = posts.lessens.has lasts.1;
               apart = subst (λ (es : List (ℕ × List ℕ)). AreApart es) (sym streams) s.apart;
               none = ap (lookup (is_at (nat_cmp number))) streams ∙ s.none;
@@ -334,34 +335,34 @@ module _ (number : ℕ) (stream : List ℕ) (settings : Settings) where
         posts : Posts number (mail_of next) posted
         posts = posted_for_any_posts number next.node.kept.clock (mail_of next) account
 
-        absent_still : (session : Session) → In (number, session) posted.mail.sessions → Has next.sessions number
+        absent_still : (session : Session) → In (number, session) posted.next.sessions → Has next.sessions number
         absent_still session among = let it = posts.lessens.less session among in record { value = it.old; among = it.there }
 
     serves_own : EndsNow (serves runner number served) ⊎ Serves (serves runner number served)
-    serves_own = by_test (is_gone served.session.state) refl
+    serves_own = by_test (is_gone served.next.session.state) refl
       where
         next : Runner
-        next = record runner { node = served.node }
+        next = record runner { node = served.next.node }
 
-        prints_so : is_gone served.session.state ≡ false → (print : Print) → In print served.prints → IsPlain print
+        prints_so : is_gone served.next.session.state ≡ false → (print : Print) → In print served.prints → IsPlain print
         prints_so stays print among = elim (so.prints print among) [
           | inl plain ↦ plain
           | inr gone ↦ absurd (let both : false ≡ true = sym stays ∙ gone.1 in cc)
         ]
 
-        by_test : (gone : Bool) → is_gone served.session.state ≡ gone →
+        by_test : (gone : Bool) → is_gone served.next.session.state ≡ gone →
             EndsNow (followed_by (record {
-              next = if gone then record next { sessions = without } else record next { sessions = put_at runner.sessions number served.session };
+              next = if gone then record next { sessions = without } else record next { sessions = put_at runner.sessions number served.next.session };
               inputs = served.inputs;
               prints = served.prints;
-            }) (posts_for (if gone then record next { sessions = without } else record next { sessions = put_at runner.sessions number served.session })
-            served.session.account))
+            }) (posts_for (if gone then record next { sessions = without } else record next { sessions = put_at runner.sessions number served.next.session })
+            served.next.session.account))
             ⊎ Serves (followed_by (record {
-              next = if gone then record next { sessions = without } else record next { sessions = put_at runner.sessions number served.session };
+              next = if gone then record next { sessions = without } else record next { sessions = put_at runner.sessions number served.next.session };
               inputs = served.inputs;
               prints = served.prints;
-            }) (posts_for (if gone then record next { sessions = without } else record next { sessions = put_at runner.sessions number served.session })
-            served.session.account))
+            }) (posts_for (if gone then record next { sessions = without } else record next { sessions = put_at runner.sessions number served.next.session })
+            served.next.session.account))
         by_test true is =
             then_posted (record next { sessions = without }) served.prints refl
             (inr (
@@ -370,13 +371,13 @@ module _ (number : ℕ) (stream : List ℕ) (settings : Settings) where
               given_now,
               remove_apart (is_at (nat_cmp number)) runner.sessions s.sound.apart,
               gone_prints_so,
-            )) served.session.account _ refl
+            )) served.next.session.account _ refl
           where
             gone_prints_so : (print : Print) → In print served.prints → IsPlain print ⊎ (print ≡ Gone number)
             gone_prints_so print among = elim (so.prints print among) [ inl plain ↦ inl plain | inr gone ↦ inr gone.0 ]
         by_test false is =
-            then_posted (record next { sessions = put_at runner.sessions number served.session }) served.prints refl
-            (inl (put_sound is, insert_here number served.session without, prints_so is)) served.session.account _ refl
+            then_posted (record next { sessions = put_at runner.sessions number served.next.session }) served.prints refl
+            (inl (put_sound is, insert_here number served.next.session without, prints_so is)) served.next.session.account _ refl
 
   -- ---- frame after frame
 

@@ -11,15 +11,16 @@ use Rattle.pdu_bodies.specs.declared.pdu.Pdu.{Pdu}
 use Rattle.fate_chain.specs.States.{final_code}
 use Rattle.sessions.specs.Session.{Session}
 use Rattle.sessions.specs.declared.requested.Requested.{Requested}
+use Rattle.script_text.specs.Left.{in_front}
 use Rattle.script_text.specs.Prints.{AtOnce, Declined, Delivers, Gone, Late, Print, Reports, Ungranted, Unsettled}
 use Rattle.script_text.specs.Pushes.{delivery_on}
 use Rattle.script_text.specs.Responses.{reply_pdu}
-use Rattle.script_text.specs.Runner.{Owned, Told, in_front, owner_of, replied, reply_prints, told}
-use Rattle.fate_laws.proofs.Behind.{behind}
-use Rattle.fate_laws.proofs.StepsOut.{step_now}
-use Rattle.fate_laws.proofs.Submitted.{WasSubmitted, reported_submitted, submitted_later}
-use Rattle.fate_laws.proofs.Telling.{IsMute, IsNoDelivery, IsNoDeliverSm, TellsNone}
-use Rattle.fate_laws.proofs.Tellings.{IsTelling, NodePrint, TakesDeliveries, by_node, prints_at}
+use Rattle.script_text.specs.Runner.{Owned, Told, owner_of, replied, reply_prints, told}
+use Rattle.world_fates.proofs.node.Behind.{behind}
+use Rattle.world_fates.proofs.node.StepsOut.{step_now}
+use Rattle.world_fates.proofs.node.Submitted.{WasSubmitted, reported_submitted, submitted_later}
+use Rattle.world_fates.proofs.node.Telling.{IsMute, IsNoDelivery, IsNoDeliverSm, TellsNone}
+use Rattle.world_fates.proofs.node.Tellings.{IsTelling, NodePrint, TakesDeliveries, by_node, prints_at}
 
 -- it answers a request that waited
 pub record IsReply (pdu : Pdu) : Type 0 where

@@ -19,15 +19,16 @@ use Rattle.sessions.specs.Session.{Session}
 use Rattle.pdu_codec.specs.Pdu.{read_pdu}
 use Rattle.pdu_frames.specs.Frames.{begins_wrong, cut}
 use Rattle.sessions.specs.Steps.{on_wrong_length}
+use Rattle.script_text.specs.Left.{followed_by}
 use Rattle.script_text.specs.Settings.{Settings}
 use Rattle.script_text.specs.Attempts.{submission_at}
 use Rattle.script_text.specs.Node.{Node, awaiting, step_at, tick_at}
 use Rattle.script_text.specs.Prints.{AtOnce, Declined, Delivers, Gone, Late, Print, Reports, Ungranted, Unsettled}
 use Rattle.script_text.specs.Pushes.{accounts_up, session_at, target_in}
-use Rattle.script_text.specs.Runner.{Acted, Runner, Served, answered_by, ends, followed_by, gives_up, granted, granted_unless, held_in, holds}
+use Rattle.script_text.specs.Runner.{Acted, Runner, Served, answered_by, ends, gives_up, granted, granted_unless, held_in, holds}
 use Rattle.script_text.specs.Runner.{mail_of, nothing_came, on_delivery, on_done, on_frame, on_frames, on_grant, on_octets, on_read, on_rest, on_tick}
 use Rattle.script_text.specs.Runner.{opened_at, pushes, sent, sent_to, served_at, serves, session_in, ticked, told}
-use Rattle.script_world.specs.Prints.{At}
+use Rattle.script_text.specs.Prints.{At}
 use Rattle.world_fates.proofs.Asking.{replies_tell}
 use Rattle.octet_laws.proofs.Hearing.{ServedSo, length_so, read_so}
 use Rattle.octet_laws.proofs.Lines.{IsRefusal}
@@ -138,7 +139,7 @@ serves_only : (at : ℕ) (runner : Runner) (served : Served) → AreOnly at serv
 serves_only at runner served only =
     let next = (served_at runner at served).next in
     both_only at served.prints _ only
-    (λ print among. inl ((posted_for_any_posts 0 next.node.kept.clock (mail_of next) served.session.account).plain print among))
+    (λ print among. inl ((posted_for_any_posts 0 next.node.kept.clock (mail_of next) served.next.session.account).plain print among))
 
 rest_only : (settings : Settings) (at : ℕ) (runner : Runner) (rest : List ℕ) → AreOnly at (on_rest settings at runner rest).prints
 rest_only settings at runner rest = by_test (begins_wrong rest)

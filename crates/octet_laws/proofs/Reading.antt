@@ -23,7 +23,7 @@ use Rattle.pdu_bodies.specs.declared.pdu.Pdu.{Pdu}
 use Rattle.pdu_bodies.specs.declared.pdu.QueryAnswer.{QueryAnswer}
 use Rattle.pdu_codec.specs.Pdu.{framed, octets_of, read_pdu}
 use Rattle.pdu_codec.proofs.PduSpelling.{read_pdu-takes, served}
-use Rattle.fate_laws.proofs.Clear.{HasNoZero}
+use Rattle.world_fates.proofs.node.Clear.{HasNoZero}
 use Rattle.octet_laws.specs.Laws.{IsSpelledAs}
 use Rattle.octet_laws.specs.Tellings.{IsPdu, deliver_sm, esme_rok, query_sm_resp}
 use Rattle.octet_laws.specs.Cancels.{CancelCame, HasSequence, cancel_sm, cancel_sm_resp}

@@ -41,17 +41,18 @@ use Rattle.sessions.specs.declared.pushed.Pushed.{Pushed}
 use Rattle.sessions.specs.declared.pushed.PushRefusal.{PushRefusal}
 use Rattle.sessions.specs.declared.request.OpenRequest.{OpenRequest}
 use Rattle.sessions.specs.declared.requested.Requested.{Requested}
-use Rattle.script_text.specs.Attempts.{Went, all_given_up, concluded, delivered_so, given_up, rests_at, submission_at, unanswered, went}
+use Rattle.script_text.specs.Left.{followed_by, rests}
+use Rattle.script_text.specs.Attempts.{Went, all_given_up, concluded, delivered_so, given_up, submission_at, unanswered, went}
 use Rattle.script_text.specs.Node.{Node, awaiting, step_at, tick_at}
 use Rattle.script_text.specs.Prints.{AtOnce, Declined, Delivers, Gone, Late, Print, Reports, Ungranted, Unsettled}
 use Rattle.script_text.specs.Pushes.{accounts_up, delivery_on, overdue_in, pushed_on, session_at, target_in, timely_in, with_push}
 use Rattle.script_text.specs.Receipts.{Mail, Posted, all_posted, goes_out, goes_out_up_to, is_for, posted, posted_for, posted_for_all}
-use Rattle.script_text.specs.Receipts.{posted_for_any, posted_to, reports_on, stays, submitter_of, then_posted, waits_for, with_both}
+use Rattle.script_text.specs.Receipts.{posted_for_any, posted_to, reports_on, submitter_of, waits_for, with_both}
 use Rattle.script_text.specs.Responses.{reply_pdu}
-use Rattle.script_text.specs.Runner.{Acted, Owned, Runner, answered_by, fails_by, followed_by, gives_up, granted, granted_unless, held_in}
+use Rattle.script_text.specs.Runner.{Acted, Owned, Runner, answered_by, fails_by, gives_up, granted, granted_unless, held_in}
 use Rattle.script_text.specs.Runner.{mail_of, makes_room, on_delivery, on_grant, on_tick, owner_of, posts, posts_for, posts_for_all, pushes, replied}
 use Rattle.script_text.specs.Runner.{replied_at, sent, sent_to, ticked, told, with_posted}
-use Rattle.fate_laws.proofs.Posting.{left_in}
+use Rattle.world_fates.proofs.node.Posting.{left_in}
 use Rattle.world_fates.proofs.Entries.{AreApart, Has, found_entry, map_apart, set_apart, set_in}
 use Rattle.world_fates.proofs.Asking.{AsksOn, replies_tell}
 use Rattle.world_fates.proofs.Fresh.{reply_sequence}
@@ -365,16 +366,16 @@ keeps_then number stream one other first last = record {
 -- ---- receipts go out
 
 pub record Posts (number : ℕ) (mail : Mail) (posted : Posted) : Type 0 where
-  pub lessens : Lessens number mail.sessions posted.mail.sessions
+  pub lessens : Lessens number mail.sessions posted.next.sessions
   pub plain : (print : Print) → In print posted.prints → IsPlain print
 
-stays_posted : (number : ℕ) (mail : Mail) → Posts number mail (stays mail)
+stays_posted : (number : ℕ) (mail : Mail) → Posts number mail (rests mail)
 stays_posted number mail = record { lessens = same_lessens number mail.sessions; plain = λ print among. absurd among }
 
-then_posts : (number : ℕ) (mail : Mail) (first last : Posted) → Posts number mail first → Posts number first.mail last →
-    Posts number mail (then_posted first last)
+then_posts : (number : ℕ) (mail : Mail) (first last : Posted) → Posts number mail first → Posts number first.next last →
+    Posts number mail (followed_by first last)
 then_posts number mail first last one other = record {
-  lessens = less_then number mail.sessions first.mail.sessions last.mail.sessions one.lessens other.lessens;
+  lessens = less_then number mail.sessions first.next.sessions last.next.sessions one.lessens other.lessens;
   plain = λ print among. elim (in_either print first.prints last.prints among) [ inl here ↦ one.plain print here | inr there ↦ other.plain print there ];
 }
 
@@ -397,12 +398,12 @@ goes_out_up_to_posts number (suc more) now account mail =
     at_both (find (is_for account) mail.waiting) (target_in mail.sessions account) (goes_out_up_to_posts number more now account)
   where
     at_both : (found : Option Receipt) (target : Option ℕ) → ((next : Mail) → Posts number next (goes_out_up_to more now account next)) →
-        Posts number mail (with_both (stays mail)
-        (λ receipt at. then_posted (goes_out now account mail receipt at)
-        (goes_out_up_to more now account (goes_out now account mail receipt at).mail)) found target)
+        Posts number mail (with_both (rests mail)
+        (λ receipt at. followed_by (goes_out now account mail receipt at)
+        (goes_out_up_to more now account (goes_out now account mail receipt at).next)) found target)
     at_both (Some receipt) (Some at) behind =
         let one = goes_out now account mail receipt at in
-        then_posts number mail one (goes_out_up_to more now account one.mail) (goes_out_posts number now account mail receipt at) (behind one.mail)
+        then_posts number mail one (goes_out_up_to more now account one.next) (goes_out_posts number now account mail receipt at) (behind one.next)
     at_both None target behind = stays_posted number mail
     at_both (Some receipt) None behind = stays_posted number mail
 
@@ -418,8 +419,8 @@ unfolding posted_for_all
 posted_for_all_posts number now mail [] = stays_posted number mail
 posted_for_all_posts number now mail (account ∷ others) =
     let one = posted_for now mail account in
-    then_posts number mail one (posted_for_all now one.mail others) (posted_for_posts number now mail account)
-    (posted_for_all_posts number now one.mail others)
+    then_posts number mail one (posted_for_all now one.next others) (posted_for_posts number now mail account)
+    (posted_for_all_posts number now one.next others)
 
 posted_to_posts : (number now : ℕ) (mail : Mail) (receipt : Receipt) (account : Option (List ℕ)) → Posts number mail (posted_to now mail receipt account)
 posted_to_posts number now mail receipt None = stays_posted number mail
@@ -432,14 +433,14 @@ unfolding all_posted
 all_posted_posts number now mail [] = stays_posted number mail
 all_posted_posts number now mail (receipt ∷ others) =
     let one = posted now mail receipt in
-    then_posts number mail one (all_posted now one.mail others) (posted_to_posts number now mail receipt (submitter_of receipt))
-    (all_posted_posts number now one.mail others)
+    then_posts number mail one (all_posted now one.next others) (posted_to_posts number now mail receipt (submitter_of receipt))
+    (all_posted_posts number now one.next others)
 
 posts_keep : (number : ℕ) (stream : List ℕ) (runner : Runner) (posted : Posted) → Hears number stream runner → Posts number (mail_of runner) posted →
     Keeps number stream (with_posted runner posted)
 posts_keep number stream runner posted hears it = record {
   hears = record {
-    sound = sound_less number stream runner.node.kept runner.sessions posted.mail.sessions it.lessens hears.sound;
+    sound = sound_less number stream runner.node.kept runner.sessions posted.next.sessions it.lessens hears.sound;
     held = hears.held;
   };
   fine = λ print among. plain_fine number stream print (it.plain print among);
@@ -536,7 +537,7 @@ delivery_keep number stream runner packet others hears =
 pub concluded_on : (node : Node) (slot : Slot) (outcome : Outcome) → GoesOn node.kept (concluded node slot outcome).node.kept
 concluded_on node slot outcome = by_test (is_open node.kept slot)
   where
-    by_test : (test : Bool) → GoesOn node.kept (cond {A = Went} test (went node (Response slot outcome)) (rests_at node)).node.kept
+    by_test : (test : Bool) → GoesOn node.kept (cond {A = Went} test (went node (Response slot outcome)) (rests node)).node.kept
     by_test true = step_on (Response slot outcome) node.kept _ (stepped_so node.setup node.kept (Response slot outcome) (λ lost is. cc))
     by_test false = on_same node.kept
 

@@ -20,18 +20,20 @@ use Rattle.sessions.specs.Session.{Session}
 use Rattle.script_lines.specs.Lines.{lines_of}
 use Rattle.script_lines.specs.Said.{Said, Skipped, Nodes, Octets, Deliver, Crash, Tick, Grant, Settle, Restart, Replay, said_within}
 use Rattle.script_lines.proofs.SaidLemmas.{spells_within}
+use Rattle.script_text.specs.Left.{followed_by, rests}
 use Rattle.script_text.specs.Prints.{Declined, Gone, Print}
-use Rattle.script_text.specs.Runner.{Acted, Runner, declined, given_out, gone_prints, held_in, last_incarnation, most_deliveries, no_incarnation}
+use Rattle.script_text.specs.Runner.{Acted, Runner, declined, given_out, gone_prints, held_in, last_incarnation, no_incarnation}
 use Rattle.script_text.specs.Runner.{on_delivery, on_grant}
 use Rattle.script_text.specs.Runner.{on_octets, on_tick, restarted}
 use Rattle.script_text.specs.Settings.{Settings}
-use Rattle.script_world.specs.Prints.{At, Refuses, StopsSettling, WorldPrint, world_text}
-use Rattle.script_world.specs.Script.{Stepped, moved_by, step_by, step_of, stepped as does}
-use Rattle.script_world.specs.World.{Due, Moved, World, all_come, comes, comes_again, comes_if, comes_to, crashed, crashes, crashes_if, due, grants, hears}
-use Rattle.script_world.specs.World.{if_due}
-use Rattle.script_world.specs.World.{if_up, is_down, is_up, is_up_at, marked, no_node, no_packet, node_numbers, on_replay, on_settle, packet_of, refuses}
-use Rattle.script_world.specs.World.{replays}
-use Rattle.script_world.specs.World.{restarts, restarts_if, runner_at, settles, shared, stays, then_moved, ticks, unsettled, up_or_refuses}
+use Rattle.script_text.specs.Prints.{At, Refuses, StopsSettling, WorldPrint, world_text}
+use Rattle.script_text.specs.Script.{Stepped, moved_by, step_by, step_of, stepped as does}
+use Rattle.script_text.specs.World.{most_deliveries}
+use Rattle.script_text.specs.World.{Due, Moved, World, all_come, comes, comes_again, comes_if, comes_to, crashed, crashes, crashes_if, due, grants, hears}
+use Rattle.script_text.specs.World.{if_due}
+use Rattle.script_text.specs.World.{if_up, is_down, is_up, is_up_at, marked, no_node, no_packet, node_numbers, on_replay, on_settle, packet_of, refuses}
+use Rattle.script_text.specs.World.{replays}
+use Rattle.script_text.specs.World.{restarts, restarts_if, runner_at, settles, shared, ticks, unsettled, up_or_refuses}
 use Rattle.world_fates.proofs.Entries.{AreApart, Has}
 use Rattle.world_fates.proofs.Lines.{one_node, printed_at}
 use Rattle.world_fates.proofs.Places.{row_least, set_cases}
@@ -64,7 +66,7 @@ module _ (m number : ℕ) (least_m : 1 ≤ m) where
       answers : AnswersSo stream moved.prints
       ungone : NoneGone moved.prints
 
-    stays_so : (world : World) → WorldHears stream world → MovesSo (stays world)
+    stays_so : (world : World) → WorldHears stream world → MovesSo (rests world)
     stays_so world heard = record { hears = heard; answers = λ print among. absurd among; ungone = λ node session among. among }
 
     refuses_so : (world : World) (reason : ℕ) → WorldHears stream world → MovesSo (refuses world reason)
@@ -89,7 +91,7 @@ module _ (m number : ℕ) (least_m : 1 ≤ m) where
         gone node session (inl same) = cc
         gone node session (inr none) = none
 
-    then_so : (one other : Moved) → MovesSo one → MovesSo other → MovesSo (then_moved one other)
+    then_so : (one other : Moved) → MovesSo one → MovesSo other → MovesSo (followed_by one other)
     then_so one other first last = record {
       hears = last.hears;
       answers = λ print among. elim (in_either (At m print) one.prints other.prints among) [
@@ -147,14 +149,14 @@ module _ (m number : ℕ) (least_m : 1 ≤ m) where
         by_packet : (found : Option Packet) → MovesSo (comes_if world packet node found)
         by_packet None = refuses_so world no_packet heard
         by_packet (Some one) =
-            if_up_so world heard node least (λ runner. shared (marked world packet node) node (on_delivery runner one []))
-            (λ runner is. shared_so (marked world packet node) heard node least (on_delivery runner one [])
+            if_up_so world heard node least (λ runner. shared (marked world packet node) node (on_delivery runner one))
+            (λ runner is. shared_so (marked world packet node) heard node least (on_delivery runner one)
             (λ same. delivery_keep number stream runner one [] (the_runner world heard node least runner is same)) (delivery_ungone runner one []))
 
     comes_again_so : (world : World) → WorldHears stream world → (packet node : ℕ) → 1 ≤ node → MovesSo (comes_again world packet node)
     comes_again_so world heard packet node least = by_test (is_up_at (runner_at world node))
       where
-        by_test : (up : Bool) → MovesSo (if up then comes world packet node else stays world)
+        by_test : (up : Bool) → MovesSo (if up then comes world packet node else rests world)
         by_test true = comes_so world heard packet node least
         by_test false = stays_so world heard
 
@@ -164,10 +166,10 @@ module _ (m number : ℕ) (least_m : 1 ≤ m) where
     settles_so (suc more) nodes world heard = by_due (due world nodes) refl (settles_so more nodes)
       where
         then_settles : Due → Moved
-        then_settles next = then_moved (comes world next.number next.node) (settles more nodes (comes world next.number next.node).next)
+        then_settles next = followed_by (comes world next.number next.node) (settles more nodes (comes world next.number next.node).next)
 
         by_due : (next : Option Due) → due world nodes ≡ next → ((other : World) → WorldHears stream other → MovesSo (settles more nodes other)) →
-            MovesSo (if_due (stays world) then_settles next)
+            MovesSo (if_due (rests world) then_settles next)
         by_due None is others = stays_so world heard
         by_due (Some next) is others =
             let one = comes world next.number next.node in
@@ -211,20 +213,20 @@ module _ (m number : ℕ) (least_m : 1 ≤ m) where
   -- what a line leaves: the session hears what came on it
   pub record LineSo (stream : List ℕ) (said : Said) (done : Stepped) : Type 0 where
     pub next : World
-    pub stage_is : done.stage ≡ Some next
+    pub stage_is : done.next ≡ Some next
     pub hears : WorldHears (heard_then m number (Some said) (written_in done.prints) stream) next
     pub short : IsShort (heard_then m number (Some said) (written_in done.prints) stream)
     pub answers : AnswersSo stream done.prints
 
   abbrev done_by : Moved → Stepped
-  done_by moved = record { stage = Some moved.next; inputs = moved.inputs; prints = moved.prints }
+  done_by moved = record { next = Some moved.next; inputs = moved.inputs; prints = moved.prints }
 
   -- a line that brings nothing on the session
   brings_none : (stream : List ℕ) (said : Said) (moved : Moved) → brought m number (Some said) (written_in moved.prints) ≡ [] → IsShort stream →
       (In (gone_line m number) (written_in moved.prints) → WorldHears [] moved.next) →
       ((In (gone_line m number) (written_in moved.prints) → ⊥) → WorldHears stream moved.next) → AnswersSo stream moved.prints →
       LineSo stream said (done_by moved)
-  brings_none stream said moved none short gone stays answers = by_test (list_any (bytes_eq (gone_line m number)) (written_in moved.prints)) refl
+  brings_none stream said moved none short gone rests answers = by_test (list_any (bytes_eq (gone_line m number)) (written_in moved.prints)) refl
     where
       same : stream ++ brought m number (Some said) (written_in moved.prints) ≡ stream
       same = ap (λ (more : List ℕ). stream ++ more) none ∙ append-nil stream
@@ -244,7 +246,7 @@ module _ (m number : ℕ) (least_m : 1 ≤ m) where
         next = moved.next;
         stage_is = refl;
         hears = subst (λ (test : Bool). WorldHears (heard test) moved.next) (sym is)
-            (subst (λ (s : List ℕ). WorldHears s moved.next) (sym same) (stays (λ among. in_any (gone_line m number) (written_in moved.prints) among is)));
+            (subst (λ (s : List ℕ). WorldHears s moved.next) (sym same) (rests (λ among. in_any (gone_line m number) (written_in moved.prints) among is)));
         short = subst (λ (test : Bool). IsShort (heard test)) (sym is) (subst IsShort (sym same) short);
         answers = answers;
       }
@@ -610,7 +612,7 @@ module _ (m number : ℕ) (least_m : 1 ≤ m) where
 
       said_so : (said : Said) (done : Stepped) → said_within (length world.runners) line ≡ Some said → moved_by settings world said ≡ Some done →
           LineSo stream said done
-      said_so Skipped done says is = moved_so Skipped (stays world) done is (calm_line stream Skipped (stays world) refl short (stays_so stream world heard))
+      said_so Skipped done says is = moved_so Skipped (rests world) done is (calm_line stream Skipped (rests world) refl short (stays_so stream world heard))
       said_so (Nodes count serial) done says is = absurd cc
       said_so (Octets node at octets) done says is =
           let wording = (spells_within (length world.runners) line (Octets node at octets) says).wording in

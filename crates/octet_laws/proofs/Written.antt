@@ -12,9 +12,9 @@ use Rattle.script_lines.specs.Said.{◌>>=◌}
 use Rattle.script_text.specs.Node.{opened_by}
 use Rattle.script_text.specs.Runner.{Runner, runner_opened}
 use Rattle.script_text.specs.Settings.{Settings, script_settings}
-use Rattle.script_world.specs.Prints.{WorldPrint, world_line, world_text}
-use Rattle.script_world.specs.Script.{Joins, Stage, Stepped, after, prints_from, step_by, step_of}
-use Rattle.script_world.specs.World.{NodeInput, opened, setup_of}
+use Rattle.script_text.specs.Prints.{WorldPrint, world_line, world_text}
+use Rattle.script_text.specs.Script.{Joins, Stage, Stepped, after, prints_from, step_by, step_of}
+use Rattle.script_text.specs.World.{NodeInput, opened, setup_of}
 use Rattle.world_fates.proofs.Answering.{joins_more}
 use Rattle.octet_laws.specs.Cancels.{LinesWriteOn, heard_behind, heard_on, heard_then, written_by, written_then}
 use Rattle.octet_laws.proofs.Ties.{Hears}
@@ -42,8 +42,8 @@ pub joined_prints : (first : Stage) (lines : List (List ℕ)) (came : List NodeI
 unfolding Joins prints_from
 joined_prints first [] came prints last joins = sym joins.1
 joined_prints first (line ∷ lines) came prints last joins =
-    ap (λ (found : Option Stepped). after [] (λ (done : Stepped). done.prints ++ prints_from script_settings done.stage lines) found) joins.3
-    ∙ ap (λ (others : List WorldPrint). joins.0.prints ++ others) (joined_prints joins.0.stage lines joins.1 joins.2 last joins.6)
+    ap (λ (found : Option Stepped). after [] (λ (done : Stepped). done.prints ++ prints_from script_settings done.next lines) found) joins.3
+    ∙ ap (λ (others : List WorldPrint). joins.0.prints ++ others) (joined_prints joins.0.next lines joins.1 joins.2 last joins.6)
     ∙ sym joins.5
 
 pub record IsJoined (first : Stage) (lines : List (List ℕ)) : Type 0 where
@@ -60,7 +60,7 @@ joined_or [] first = inl (record { came = []; prints = []; last = first; joins =
 joined_or (line ∷ lines) first = by_step (step_of script_settings first line) refl (joined_or lines)
   where
     then_prints : (more : List (List ℕ)) → Option Stepped → List WorldPrint
-    then_prints more found = after [] (λ (done : Stepped). done.prints ++ prints_from script_settings done.stage more) found
+    then_prints more found = after [] (λ (done : Stepped). done.prints ++ prints_from script_settings done.next more) found
 
     by_step : (step : Option Stepped) → step_of script_settings first line ≡ step →
         ((next : Stage) → IsJoined next lines
@@ -68,7 +68,7 @@ joined_or (line ∷ lines) first = by_step (step_of script_settings first line) 
         IsJoined first (line ∷ lines)
         ⊎ ((more : List (List ℕ)) → then_prints (lines ++ more) (step_of script_settings first line) ≡ then_prints lines (step_of script_settings first line))
     by_step None is others = inr (λ more. ap (then_prints (lines ++ more)) is ∙ sym (ap (then_prints lines) is))
-    by_step (Some done) is others = elim (others done.stage) [
+    by_step (Some done) is others = elim (others done.next) [
       | inl rest ↦ inl (record {
         came = done.inputs ++ rest.came;
         prints = done.prints ++ rest.prints;
@@ -87,8 +87,8 @@ joined_more first [] came prints last joins more =
     ap (λ (stage : Stage). prints_from script_settings stage more) (sym joins.2)
     ∙ ap (λ (p : List WorldPrint). p ++ prints_from script_settings last more) (sym joins.1)
 joined_more first (line ∷ lines) came prints last joins more =
-    ap (λ (found : Option Stepped). after [] (λ (done : Stepped). done.prints ++ prints_from script_settings done.stage (lines ++ more)) found) joins.3
-    ∙ ap (λ (others : List WorldPrint). joins.0.prints ++ others) (joined_more joins.0.stage lines joins.1 joins.2 last joins.6 more)
+    ap (λ (found : Option Stepped). after [] (λ (done : Stepped). done.prints ++ prints_from script_settings done.next (lines ++ more)) found) joins.3
+    ∙ ap (λ (others : List WorldPrint). joins.0.prints ++ others) (joined_more joins.0.next lines joins.1 joins.2 last joins.6 more)
     ∙ sym (append_assoc joins.0.prints joins.2 (prints_from script_settings last more))
     ∙ ap (λ (p : List WorldPrint). p ++ prints_from script_settings last more) (sym joins.5)
 
@@ -126,11 +126,11 @@ bad : (line : List ℕ) (lines : List (List ℕ)) (first : Stage) (came : List N
     prints_from script_settings first (lines ++ line ∷ []) ≡ prints
 unfolding Joins prints_from
 bad line [] first came prints last joins is =
-    ap (λ (found : Option Stepped). after [] (λ (done : Stepped). done.prints ++ prints_from script_settings done.stage []) found)
+    ap (λ (found : Option Stepped). after [] (λ (done : Stepped). done.prints ++ prints_from script_settings done.next []) found)
     (ap (λ (stage : Stage). step_of script_settings stage line) (sym joins.2) ∙ is) ∙ sym joins.1
 bad line (other ∷ lines) first came prints last joins is =
-    ap (λ (found : Option Stepped). after [] (λ (done : Stepped). done.prints ++ prints_from script_settings done.stage (lines ++ line ∷ [])) found) joins.3
-    ∙ ap (λ (others : List WorldPrint). joins.0.prints ++ others) (bad line lines joins.0.stage joins.1 joins.2 last joins.6 is)
+    ap (λ (found : Option Stepped). after [] (λ (done : Stepped). done.prints ++ prints_from script_settings done.next (lines ++ line ∷ [])) found) joins.3
+    ∙ ap (λ (others : List WorldPrint). joins.0.prints ++ others) (bad line lines joins.0.next joins.1 joins.2 last joins.6 is)
     ∙ sym joins.5
 
 -- what is written was printed by the line
@@ -215,26 +215,26 @@ module _ (m number : ℕ) (least_m : 1 ≤ m) where
   stage_hears before came prints middle joins stream hears [] coming others last later = subst (StageHears stream) (sym later.2) hears
   stage_hears before came prints middle joins stream hears (line ∷ lines) coming others last later =
       let done = later.0 in
-      stage_hears (before ++ line ∷ []) (came ++ done.inputs) (prints ++ done.prints) done.stage
+      stage_hears (before ++ line ∷ []) (came ++ done.inputs) (prints ++ done.prints) done.next
       (joins_more script_settings None middle before came prints line done joins later.3)
       (heard_then m number (said_of line) (written_then before line) stream)
-      (subst (λ (written : List (List ℕ)). StageHears (heard_then m number (said_of line) written stream) done.stage)
+      (subst (λ (written : List (List ℕ)). StageHears (heard_then m number (said_of line) written stream) done.next)
       (sym (then_written before came prints middle line done joins later.3)) (next middle hears later.3)) lines later.1 later.2 last later.6
     where
       abbrev_none : (done : Stepped) → List (List ℕ)
       abbrev_none done = lines_of (world_text done.prints)
 
       by_said : (found : Option Said) → said_within 9 line ≡ found → (done : Stepped) → step_by script_settings None found ≡ Some done → stream ≡ [] →
-          StageHears (heard_then m number (said_of line) (abbrev_none done) stream) done.stage
+          StageHears (heard_then m number (said_of line) (abbrev_none done) stream) done.next
       by_said None says done is none = absurd cc
       by_said (Some Skipped) says done is none =
-          subst (λ (d : Stepped). StageHears (heard_then m number (said_of line) (abbrev_none d) stream) d.stage) (same _ done is)
+          subst (λ (d : Stepped). StageHears (heard_then m number (said_of line) (abbrev_none d) stream) d.next) (same _ done is)
           (subst (λ (said : Option Said). StageHears (heard_then m number said [] stream) None) (sym (said_one 9 line Skipped says)) (append-nil stream ∙ none))
         where
           same : (one other : Stepped) → Some one ≡ Some other → one ≡ other
           same one other is = cc
       by_said (Some (Nodes count serial)) says done is none =
-          subst (λ (d : Stepped). StageHears (heard_then m number (said_of line) (abbrev_none d) stream) d.stage) (same _ done is)
+          subst (λ (d : Stepped). StageHears (heard_then m number (said_of line) (abbrev_none d) stream) d.next) (same _ done is)
           (subst (λ (said : Option Said). StageHears (heard_then m number said [] stream) (Some (opened script_settings count serial)))
           (sym (said_one 9 line (Nodes count serial) says))
           (subst (λ (s : List ℕ). StageHears s (Some (opened script_settings count serial))) (sym (append-nil stream ∙ none))
@@ -252,7 +252,7 @@ module _ (m number : ℕ) (least_m : 1 ≤ m) where
       by_said (Some (Replay count)) says done is none = absurd cc
 
       next : (stage : Stage) → StageHears stream stage → step_of script_settings stage line ≡ Some later.0 →
-          StageHears (heard_then m number (said_of line) (abbrev_none later.0) stream) later.0.stage
+          StageHears (heard_then m number (said_of line) (abbrev_none later.0) stream) later.0.next
       next None none is = by_said (said_within 9 line) refl later.0 is none
       next (Some world) hears is =
           let it = line_so m number least_m script_settings stream hears.1 world hears.0 line later.0 is in

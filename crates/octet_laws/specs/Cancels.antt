@@ -14,8 +14,8 @@ use Rattle.pdu_frames.specs.Frames.{cut}
 use Rattle.script_lines.specs.Lines.{lines_of}
 use Rattle.script_lines.specs.Said.{Grant, IsSession, Octets, Said, said_of}
 use Rattle.script_text.specs.Settings.{script_settings}
-use Rattle.script_world.specs.Prints.{world_text}
-use Rattle.script_world.specs.Script.{prints_from, text_of}
+use Rattle.script_text.specs.Prints.{world_text}
+use Rattle.script_text.specs.Script.{prints_from, text_of}
 use Rattle.octet_laws.specs.Tellings.{IsPdu, IsPduLine, esme_rok, query_sm_resp}
 
 -- ---- what lines write

@@ -5,7 +5,7 @@ use Rattle.pdu_fields.specs.Grammar.{query_answer_parts}
 use Rattle.pdu_bodies.specs.Contents.{query_answer_contents}
 use Rattle.pdu_bodies.specs.declared.pdu.QueryAnswer.{QueryAnswer}
 use Rattle.script_lines.specs.Lines.{lines_of}
-use Rattle.script_world.specs.Script.{text_of}
+use Rattle.script_text.specs.Script.{text_of}
 use Rattle.world_fates.specs.Example.{cancelled_and_asked, its_message}
 use Rattle.octet_laws.specs.Cancels.{IsCancelAnswer, Writes, heard_on}
 use Rattle.octet_laws.specs.Tellings.{IsPdu, TellsFate, esme_rok, query_sm_resp}

@@ -8,7 +8,7 @@ use Rattle.pdu_bodies.specs.declared.pdu.Body.TheVariants.{DeliverSm, QuerySmRes
 use Rattle.pdu_bodies.specs.declared.pdu.Pdu.{Pdu}
 use Rattle.pdu_codec.specs.Pdu.{read_pdu}
 use Rattle.script_lines.specs.Lines.{lines_of}
-use Rattle.script_world.specs.Script.{text_of}
+use Rattle.script_text.specs.Script.{text_of}
 use Rattle.octet_laws.specs.Tellings.{IsPdu, TellOneFate, deliver_sm, query_sm_resp}
 
 -- The lines of the octets that a script writes, all or the first of them, tell one fate of each message.

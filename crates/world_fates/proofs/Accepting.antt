@@ -22,7 +22,7 @@ use Rattle.script_text.specs.Runner.{Owned, Told, in_front, owner_of, replied, r
 use Rattle.script_text.specs.Settings.{Settings}
 use Rattle.script_world.specs.Prints.{At, WorldPrint}
 use Rattle.script_world.specs.Script.{Joins, Stage}
-use Rattle.script_world.specs.World.{NodeInput as LineInput, World}
+use Rattle.script_world.specs.World.{World}
 use Rattle.fate_laws.proofs.Behind.{behind, given_later, input_to}
 use Rattle.fate_laws.proofs.Printing.{of_all}
 use Rattle.fate_laws.proofs.StepsOut.{step_now}
@@ -174,7 +174,7 @@ says_known cluster node first id accepted past input ticket since may reply same
     reply_is : reply ≡ record { ticket = ticket; id = id; answer = Unknown }
     reply_is = λ i. record { ticket = sym same i; id = about i; answer = unknown i }
 
-pub later_requests : (settings : Settings) (before later : List (List ℕ)) (came coming : List LineInput) (prints others : List WorldPrint) (world : World)
+pub later_requests : (settings : Settings) (before later : List (List ℕ)) (came coming : List NodeInput) (prints others : List WorldPrint) (world : World)
     (last : Stage) (here there : ℕ) (first answer : Print) (id : ℕ) → Joins settings None before came prints (Some world) →
     Joins settings (Some world) later coming others last → 1 ≤ there → In (At here first) prints → In (At there answer) others →
     TellsAcceptance first id → TellsUnknown answer id → AnswersWhatWaited world there answer

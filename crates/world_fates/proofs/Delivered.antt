@@ -18,11 +18,10 @@ use Rattle.script_text.specs.Prints.{Print}
 use Rattle.script_text.specs.Settings.{Settings}
 use Rattle.script_world.specs.Prints.{At, WorldPrint}
 use Rattle.script_world.specs.Script.{Joins, Stage, Stepped, step_by, step_of}
-use Rattle.script_world.specs.World.{NodeInput as LineInput, World}
+use Rattle.script_world.specs.World.{World}
 use Rattle.script_lines.specs.Said.{Said, Skipped, Nodes, Octets, Deliver, Crash, Tick, Grant, Settle, Restart, Replay, said_within}
 use Rattle.fate_laws.proofs.Behind.{behind}
 use Rattle.world_fates.specs.Deliveries.{IsDelivered, IsSaid, StandsOnAnAnswer, WasAnswered, comes}
-use Rattle.world_fates.proofs.Worlds.{inputs_of, to_cluster}
 use Rattle.world_fates.proofs.Printing.{StageSo, first_so}
 use Rattle.world_fates.proofs.Given.{GivenFrom, given_takes, given_telling, given_then_so}
 use Rattle.world_fates.proofs.Answering.{answered_in_octets, joins_more}
@@ -30,41 +29,41 @@ use Rattle.world_fates.proofs.Answering.{answered_in_octets, joins_more}
 -- ---- what came, the oldest first
 
 -- these came before what stands there, the newest of them first
-abbrev onto : List NodeInput → List LineInput → List LineInput
+abbrev onto : List NodeInput → List NodeInput → List NodeInput
 onto [] rest = rest
 onto (x ∷ xs) rest = onto xs (comes x.node x.input ∷ rest)
 
-onto_behind : (came : List LineInput) (past : List NodeInput) (rest : List LineInput) → onto (behind (inputs_of came) past) rest ≡ onto past (came ++ rest)
+onto_behind : (came : List NodeInput) (past : List NodeInput) (rest : List NodeInput) → onto (behind came past) rest ≡ onto past (came ++ rest)
 onto_behind [] past rest = refl
 onto_behind (x ∷ came) past rest = onto_behind came (to_cluster x ∷ past) rest
 
-onto_both : (front back : List NodeInput) (rest : List LineInput) → onto (front ++ back) rest ≡ onto back (onto front rest)
+onto_both : (front back : List NodeInput) (rest : List NodeInput) → onto (front ++ back) rest ≡ onto back (onto front rest)
 onto_both [] back rest = refl
 onto_both (x ∷ front) back rest = onto_both front back (comes x.node x.input ∷ rest)
 
-onto_apart : (xs : List NodeInput) (rest : List LineInput) → onto xs rest ≡ onto xs [] ++ rest
+onto_apart : (xs : List NodeInput) (rest : List NodeInput) → onto xs rest ≡ onto xs [] ++ rest
 onto_apart [] rest = refl
 onto_apart (x ∷ xs) rest =
-    let one : LineInput = comes x.node x.input in
+    let one : NodeInput = comes x.node x.input in
     onto_apart xs (one ∷ rest) ∙ sym (append_assoc (onto xs []) (one ∷ []) rest)
-    ∙ ap (λ (front : List LineInput). front ++ rest) (sym (onto_apart xs (one ∷ [])))
+    ∙ ap (λ (front : List NodeInput). front ++ rest) (sym (onto_apart xs (one ∷ [])))
 
-in_onto : (xs : List NodeInput) (rest : List LineInput) (node : ℕ) (input : Input) → In (comes node input) (onto xs rest) →
+in_onto : (xs : List NodeInput) (rest : List NodeInput) (node : ℕ) (input : Input) → In (comes node input) (onto xs rest) →
     In (comes_to node input) xs ⊎ In (comes node input) rest
 in_onto [] rest node input among = inr among
 in_onto (x ∷ xs) rest node input among = elim (in_onto xs (comes x.node x.input ∷ rest) node input among) [
   | inl later ↦ inl (inr later)
-  | inr (inl same) ↦ inl (inl (ap (λ (n : LineInput). to_cluster n) same))
+  | inr (inl same) ↦ inl (inl (ap (λ (n : NodeInput). to_cluster n) same))
   | inr (inr older) ↦ inr older
 ]
 
-was_answered : (came : List LineInput) (newer : List NodeInput) (node : ℕ) (slot : Slot) (older : List NodeInput) →
-    behind (inputs_of came) [] ≡ newer ++ older → CameInOneLife node (Grants slot) (Response slot (Concluded Delivered 0)) older → WasAnswered came node slot
+was_answered : (came : List NodeInput) (newer : List NodeInput) (node : ℕ) (slot : Slot) (older : List NodeInput) →
+    behind came [] ≡ newer ++ older → CameInOneLife node (Grants slot) (Response slot (Concluded Delivered 0)) older → WasAnswered came node slot
 was_answered came newer node slot older is it =
     let answer = comes node (Response slot (Concluded Delivered 0)) in
     let grant = comes node (Grants slot) in
     let past = newer ++ it.newer in
-    let split : behind (inputs_of came) [] ≡
+    let split : behind came [] ≡
     past ++ comes_to node (Response slot (Concluded Delivered 0)) ∷ (it.middle ++ comes_to node (Grants slot) ∷ it.older) =
     is ∙ ap (λ (o : List NodeInput). newer ++ o) it.split ∙ sym (append_assoc newer it.newer _) in
     record {
@@ -77,7 +76,7 @@ was_answered came newer node slot older is it =
           ∙ onto_both past (comes_to node (Response slot (Concluded Delivered 0)) ∷ (it.middle ++ comes_to node (Grants slot) ∷ it.older)) []
           ∙ onto_both it.middle (comes_to node (Grants slot) ∷ it.older) (answer ∷ onto past [])
           ∙ onto_apart it.older (grant ∷ onto it.middle (answer ∷ onto past []))
-          ∙ ap (λ (rest : List LineInput). onto it.older [] ++ grant ∷ rest) (onto_apart it.middle (answer ∷ onto past []));
+          ∙ ap (λ (rest : List NodeInput). onto it.older [] ++ grant ∷ rest) (onto_apart it.middle (answer ∷ onto past []));
       lives = λ lost among. elim (in_onto it.middle [] node (Restart lost) among) [ inl there ↦ it.lives lost there | inr none ↦ none ];
     }
 
@@ -115,7 +114,7 @@ delivered_is Deleted is = absurd (omega (arith, is))
 delivered_is Undeliverable is = absurd (omega (arith, is))
 delivered_is Rejected is = absurd (omega (arith, is))
 
-stage_stands : (settings : Settings) (stage : Stage) (came : List LineInput) (prints : List WorldPrint) →
+stage_stands : (settings : Settings) (stage : Stage) (came : List NodeInput) (prints : List WorldPrint) →
     StageSo settings GivenFrom given_telling given_takes stage came prints → (here : ℕ) (print : Print) (message_id : List ℕ) → In (At here print) prints →
     StatesFate print message_id (state_code states.Delivered) → StandsOnAnAnswer came message_id
 stage_stands settings None came prints none here print message_id among tells = absurd (subst (In (At here print)) none among)
@@ -135,7 +134,7 @@ stage_stands settings (Some world) came prints so here print message_id among te
           (sym so.past_is ∙ by.split ∙ sym (append_assoc by.newer (by.next ∷ []) by.older)) stands.granted;
     }
 
-pub deliveries_stand : (settings : Settings) (lines : List (List ℕ)) (came : List LineInput) (prints : List WorldPrint) (last : Stage)
+pub deliveries_stand : (settings : Settings) (lines : List (List ℕ)) (came : List NodeInput) (prints : List WorldPrint) (last : Stage)
     (here : ℕ) (print : Print) (message_id : List ℕ) → Joins settings None lines came prints last → In (At here print) prints →
     StatesFate print message_id (state_code states.Delivered) → StandsOnAnAnswer came message_id
 deliveries_stand settings lines came prints last here print message_id joins =
@@ -144,7 +143,7 @@ deliveries_stand settings lines came prints last here print message_id joins =
 -- ---- the line that brought it
 
 -- the line by which something came to a node
-record IsBroughtBy (settings : Settings) (lines : List (List ℕ)) (next : LineInput) : Type 0 where
+record IsBroughtBy (settings : Settings) (lines : List (List ℕ)) (next : NodeInput) : Type 0 where
   before : List (List ℕ)
   line : List ℕ
   later : List (List ℕ)
@@ -168,9 +167,9 @@ opening_brings_nothing settings (Some (Settle nodes)) done is = absurd cc
 opening_brings_nothing settings (Some (Restart node)) done is = absurd cc
 opening_brings_nothing settings (Some (Replay count)) done is = absurd cc
 
-brought_by : (settings : Settings) (before : List (List ℕ)) (past : List LineInput) (printed : List WorldPrint) (middle : Stage) →
-    Joins settings None before past printed middle → (lines : List (List ℕ)) (came : List LineInput) (prints : List WorldPrint) (last : Stage) →
-    Joins settings middle lines came prints last → (next : LineInput) → In next came → IsBroughtBy settings (before ++ lines) next
+brought_by : (settings : Settings) (before : List (List ℕ)) (past : List NodeInput) (printed : List WorldPrint) (middle : Stage) →
+    Joins settings None before past printed middle → (lines : List (List ℕ)) (came : List NodeInput) (prints : List WorldPrint) (last : Stage) →
+    Joins settings middle lines came prints last → (next : NodeInput) → In next came → IsBroughtBy settings (before ++ lines) next
 unfolding Joins step_of
 brought_by settings before past printed middle joins [] came prints last later next among = absurd (subst (In next) later.0 among)
 brought_by settings before past printed middle joins (line ∷ lines) came prints last later next among =
@@ -201,17 +200,17 @@ brought_by settings before past printed middle joins (line ∷ lines) came print
 
 -- ---- both
 
-answer_among : (came : List LineInput) (node : ℕ) (slot : Slot) → WasAnswered came node slot → In (comes node (Response slot (Concluded Delivered 0))) came
+answer_among : (came : List NodeInput) (node : ℕ) (slot : Slot) → WasAnswered came node slot → In (comes node (Response slot (Concluded Delivered 0))) came
 answer_among came node slot it =
     subst (In (comes node (Response slot (Concluded Delivered 0)))) (sym it.came_is)
     (behind_list it.before _ (inr (behind_list it.middle _ (inl refl))))
   where
-    behind_list : (front back : List LineInput) → In (comes node (Response slot (Concluded Delivered 0))) back →
+    behind_list : (front back : List NodeInput) → In (comes node (Response slot (Concluded Delivered 0))) back →
         In (comes node (Response slot (Concluded Delivered 0))) (front ++ back)
     behind_list [] back among = among
     behind_list (x ∷ front) back among = inr (behind_list front back among)
 
-pub delivered_by_answers : (settings : Settings) (lines : List (List ℕ)) (came : List LineInput) (prints : List WorldPrint) (last : Stage)
+pub delivered_by_answers : (settings : Settings) (lines : List (List ℕ)) (came : List NodeInput) (prints : List WorldPrint) (last : Stage)
     (here : ℕ) (print : Print) (message_id : List ℕ) → Joins settings None lines came prints last → In (At here print) prints →
     StatesFate print message_id (state_code states.Delivered) → IsDelivered settings lines message_id
 unfolding Joins

@@ -15,7 +15,7 @@ use Rattle.script_text.specs.Runner.{Owned, Runner, Told, in_front, on_grant, ow
 use Rattle.script_text.specs.Settings.{Settings}
 use Rattle.script_world.specs.Prints.{At, Refuses, WorldPrint}
 use Rattle.script_world.specs.Script.{Joins, Stepped, step_by, step_of, stepped}
-use Rattle.script_world.specs.World.{Moved, NodeInput as LineInput, World, grants, is_down, is_up, refuses, runner_at, shared, up_or_refuses, no_node}
+use Rattle.script_world.specs.World.{Moved, World, grants, is_down, is_up, refuses, runner_at, shared, up_or_refuses, no_node}
 use Rattle.fate_laws.proofs.Printing.{of_all}
 use Rattle.fate_laws.proofs.StepsOut.{step_now}
 use Rattle.fate_laws.proofs.Telling.{IsNoDelivery}
@@ -136,7 +136,7 @@ line_asks settings cluster past world stands line done is node session pdu among
     by_said None says is = absurd cc
     by_said (Some said) says is = by_asked said says is (asks_cases said)
 
-pub deliveries_first : (settings : Settings) (before : List (List ℕ)) (came : List LineInput) (prints : List WorldPrint) (world : World) (line : List ℕ)
+pub deliveries_first : (settings : Settings) (before : List (List ℕ)) (came : List NodeInput) (prints : List WorldPrint) (world : World) (line : List ℕ)
     (done : Stepped) (node session : ℕ) (pdu : Pdu) → Joins settings None before came prints (Some world) → step_of settings (Some world) line ≡ Some done →
     In (At node (Delivers session pdu)) done.prints → AsksBeforeAFate prints node (said_within (length world.runners) line)
 unfolding Joins

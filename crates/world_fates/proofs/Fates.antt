@@ -8,7 +8,7 @@ use Rattle.script_text.specs.Prints.{Print}
 use Rattle.script_text.specs.Settings.{script_settings}
 use Rattle.script_world.specs.Prints.{At, WorldPrint}
 use Rattle.script_world.specs.Script.{Stage, prints_of}
-use Rattle.script_world.specs.World.{NodeInput as LineInput}
+use Rattle.script_world.specs.World.{NodeInput}
 use Rattle.fate_laws.proofs.InOrder.{StatesStay, Tell, TellFrom, TellsOnlyAt, nothing_from, tell_takes, tell_telling}
 use Rattle.fate_laws.proofs.Printing.{of_all, stays_after, told_once}
 use Rattle.fate_laws.proofs.Tellings.{by_node}
@@ -24,7 +24,7 @@ record TellsInAll (prints : List WorldPrint) : Type 0 where
 abbrev PrintsSo : List WorldPrint → Type 0
 PrintsSo prints = (prints ≡ []) ⊎ TellsInAll prints
 
-stage_prints : (stage : Stage) (inputs : List LineInput) (prints : List WorldPrint) →
+stage_prints : (stage : Stage) (inputs : List NodeInput) (prints : List WorldPrint) →
     StageSo script_settings TellFrom tell_telling tell_takes stage inputs prints → PrintsSo prints
 stage_prints None inputs prints none = inl none
 stage_prints (Some world) inputs prints so = inr (record {

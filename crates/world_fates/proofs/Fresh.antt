@@ -24,7 +24,7 @@ use Rattle.script_text.specs.Runner.{Runner}
 use Rattle.script_text.specs.Settings.{Settings}
 use Rattle.script_world.specs.Prints.{At, WorldPrint}
 use Rattle.script_world.specs.Script.{Joins, Stage}
-use Rattle.script_world.specs.World.{NodeInput as LineInput, World, runner_at}
+use Rattle.script_world.specs.World.{World, runner_at}
 use Rattle.fate_laws.proofs.Behind.{input_to}
 use Rattle.fate_laws.proofs.Printing.{of_all}
 use Rattle.fate_laws.proofs.StepsOut.{step_now}
@@ -120,7 +120,7 @@ says_fate cluster node first outputs id final given states past input ticket sin
 late_id : (one other id also : ℕ) (pdu late : Pdu) → Late one id pdu ≡ Late other also late → also ≡ id
 late_id one other id also pdu late is = cc
 
-pub later_queries : (settings : Settings) (before later : List (List ℕ)) (came coming : List LineInput) (prints others : List WorldPrint) (world : World)
+pub later_queries : (settings : Settings) (before later : List (List ℕ)) (came coming : List NodeInput) (prints others : List WorldPrint) (world : World)
     (last : Stage) (here there : ℕ) (first query : Print) (message_id : List ℕ) (one other : ℕ) →
     Joins settings None before came prints (Some world) → Joins settings (Some world) later coming others last → 1 ≤ there →
     In (At here first) prints → In (At there query) others → StatesFate first message_id one → TellsState query message_id other →

@@ -28,13 +28,13 @@ use Rattle.script_text.specs.Runner.{Runner, granted_unless, on_grant}
 use Rattle.script_text.specs.Settings.{Settings}
 use Rattle.script_world.specs.Prints.{At, Refuses, WorldPrint}
 use Rattle.script_world.specs.Script.{Joins, Stage, Stepped, nodes_of, step_by, step_of, stepped}
-use Rattle.script_world.specs.World.{Moved, NodeInput as LineInput, World, grants, is_down, is_up, refuses, runner_at, shared, up_or_refuses, no_node}
+use Rattle.script_world.specs.World.{Moved, World, grants, is_down, is_up, refuses, runner_at, shared, up_or_refuses, no_node}
 use Rattle.fate_laws.proofs.Behind.{behind, happened_before, input_to}
 use Rattle.fate_laws.proofs.Reports.{named_small}
 use Rattle.fate_laws.proofs.Standing.{IsAt, grant_steps}
 use Rattle.fate_laws.proofs.StepsOut.{step_now}
 use Rattle.world_fates.specs.Laws.{GrantsNothing}
-use Rattle.world_fates.proofs.Worlds.{WorldStands, inputs_of, member_of, one_of_many, to_cluster}
+use Rattle.world_fates.proofs.Worlds.{WorldStands, member_of, one_of_many}
 use Rattle.world_fates.proofs.Printing.{JoinsSo, StageSo, first_so, joined_so}
 use Rattle.world_fates.proofs.Given.{GivenFrom, KnowsFate, WasGivenOut, given_takes, given_telling, given_then_so, known_later}
 
@@ -85,7 +85,7 @@ is_among cluster (first ∷ inputs) past may next (inr later) =
     let it = is_among cluster inputs (first ∷ past) may next later in
     record { older = it.older; may = it.may; given = λ id final given. it.given id final (given_before cluster first past id final given) }
 
-stage_grants_none : (settings : Settings) (later : List (List ℕ)) (came coming : List LineInput) (prints others : List WorldPrint) (middle last : Stage)
+stage_grants_none : (settings : Settings) (later : List (List ℕ)) (came coming : List NodeInput) (prints others : List WorldPrint) (middle last : Stage)
     (here there : ℕ) (first : Print) (message_id : List ℕ) (state : ℕ) (slot : Slot) → StageSo settings GivenFrom given_telling given_takes middle came prints →
     Joins settings middle later coming others last → In (At here first) prints → StatesFate first message_id state →
     In (record { node = there; input = Grants slot }) coming → IsId slot.id → decimal slot.id ≢ message_id
@@ -96,14 +96,14 @@ stage_grants_none settings later came coming prints others (Some world) last her
     let rest : JoinsSo so.cluster (GivenFrom so.cluster) so.past coming others last =
     joined_so settings so.cluster (GivenFrom so.cluster) (given_telling so.cluster) (given_takes so.cluster) later so.past
     world so.stands coming others last joins in
-    let it = is_among so.cluster (inputs_of coming) so.past (subst (MayHappen so.cluster) rest.later_is rest.stands.fit.may)
+    let it = is_among so.cluster coming so.past (subst (MayHappen so.cluster) rest.later_is rest.stands.fit.may)
     (input_to there (Grants slot)) (mapped_in to_cluster coming (record { node = there; input = Grants slot }) among) in
     let ids : knows.id ≡ slot.id =
     decimal_injective knows.id slot.id knows.small (named_small slot.id is_id.node.most) (knows.message ∙ sym same) in
     never_granted so.cluster there slot it.older it.may knows.final
     (it.given slot.id knows.final (subst (λ (id : ℕ). WasGivenOut so.cluster so.past id knows.final) ids knows.given))
 
-pub no_attempt_granted : (settings : Settings) (before later : List (List ℕ)) (came coming : List LineInput) (prints others : List WorldPrint)
+pub no_attempt_granted : (settings : Settings) (before later : List (List ℕ)) (came coming : List NodeInput) (prints others : List WorldPrint)
     (middle last : Stage) (here there : ℕ) (first : Print) (message_id : List ℕ) (state : ℕ) (slot : Slot) →
     Joins settings None before came prints middle → Joins settings middle later coming others last → In (At here first) prints →
     StatesFate first message_id state → In (record { node = there; input = Grants slot }) coming → IsId slot.id → decimal slot.id ≢ message_id
@@ -178,7 +178,7 @@ line_grants settings cluster past world stands line done there id state says is 
         record { stage = Some (grants world there id).next; inputs = (grants world there id).inputs; prints = (grants world there id).prints } ≡ done
     done_is stepped_is = cc
 
-pub stage_grants : (settings : Settings) (later : List (List ℕ)) (came coming : List LineInput) (prints others : List WorldPrint) (middle last : Stage)
+pub stage_grants : (settings : Settings) (later : List (List ℕ)) (came coming : List NodeInput) (prints others : List WorldPrint) (middle last : Stage)
     (line : List ℕ) (done : Stepped) (here there id : ℕ) (first : Print) (state : ℕ) → StageSo settings GivenFrom given_telling given_takes middle came prints →
     Joins settings middle later coming others last → In (At here first) prints → StatesFate first (decimal id) state →
     said_within (nodes_of last) line ≡ Some (Grant there id) → step_of settings last line ≡ Some done → GrantsNothing done
@@ -190,13 +190,13 @@ stage_grants settings later came coming prints others (Some world) last line don
     joined_so settings so.cluster (GivenFrom so.cluster) (given_telling so.cluster) (given_takes so.cluster) later so.past
     world so.stands coming others last joins in
     let now = subst (λ (past : List NodeInput). KnowsFate so.cluster past (decimal id) state) (sym rest.later_is)
-    (known_later so.cluster (inputs_of coming) so.past (decimal id) state knows) in
+    (known_later so.cluster coming so.past (decimal id) state knows) in
     line_grants settings so.cluster rest.later rest.world rest.stands line done there id state
     (subst (λ (stage : Stage). said_within (nodes_of stage) line ≡ Some (Grant there id)) rest.stage_is says)
     (subst (λ (stage : Stage). step_of settings stage line ≡ Some done) rest.stage_is is)
     now
 
-pub attempts_refused : (settings : Settings) (before later : List (List ℕ)) (came coming : List LineInput) (prints others : List WorldPrint)
+pub attempts_refused : (settings : Settings) (before later : List (List ℕ)) (came coming : List NodeInput) (prints others : List WorldPrint)
     (middle last : Stage) (line : List ℕ) (done : Stepped) (here there id : ℕ) (first : Print) (state : ℕ) → Joins settings None before came prints middle →
     Joins settings middle later coming others last → In (At here first) prints → StatesFate first (decimal id) state →
     said_within (nodes_of last) line ≡ Some (Grant there id) → step_of settings last line ≡ Some done → GrantsNothing done

@@ -19,14 +19,14 @@ use Rattle.script_text.specs.Runner.{Acted, Runner, given_out, most_deliveries, 
 use Rattle.script_text.specs.Settings.{Settings}
 use Rattle.script_world.specs.Prints.{At, Refuses, StopsSettling, WorldPrint}
 use Rattle.script_world.specs.Script.{Joins, Stage, Stepped, moved_by, step_by, step_of, stepped}
-use Rattle.script_world.specs.World.{Due, Moved, NodeInput as LineInput, World, acts, all_come, comes, comes_again, comes_if, comes_to as come_to, no_node}
+use Rattle.script_world.specs.World.{Due, Moved, World, acts, all_come, comes, comes_again, comes_if, comes_to as come_to, no_node}
 use Rattle.script_world.specs.World.{crashed, crashes, crashes_if, due, grants, hears, if_due, if_up, is_down, is_up, is_up_at, marked, no_packet}
 use Rattle.script_world.specs.World.{node_numbers, on_replay, on_settle, packet_of, refuses, replays, restarts, restarts_if, runner_at, settles, shared}
 use Rattle.script_world.specs.World.{stays, then_moved, ticks, unsettled, up_or_refuses}
 use Rattle.fate_laws.proofs.Behind.{behind, behind_both, came_to, happened_before, input_to}
 use Rattle.fate_laws.proofs.StepsOut.{step_now}
 use Rattle.world_fates.proofs.Places.{row_least, set_cases}
-use Rattle.world_fates.proofs.Worlds.{due_least, inputs_of, kept_apart, to_cluster}
+use Rattle.world_fates.proofs.Worlds.{due_least, kept_apart}
 use Rattle.world_fates.proofs.Lines.{one_node, printed_at}
 use Rattle.world_fates.proofs.Later.{ActsWell, CameSince, IsFine, ServesWell, delivery_well, ended_well, grant_well, octets_well, restart_well, since_later}
 use Rattle.world_fates.proofs.Later.{tick_well}
@@ -36,17 +36,17 @@ of_one : (node : ℕ) (inputs : List Input) → inputs_of (map (λ (input : Inpu
 of_one node [] = refl
 of_one node (input ∷ inputs) = ap (λ (others : List NodeInput). input_to node input ∷ others) (of_one node inputs)
 
-lines_then : (one other : List LineInput) (past : List NodeInput) → behind (inputs_of (one ++ other)) past ≡ behind (inputs_of other) (behind (inputs_of one) past)
+lines_then : (one other : List NodeInput) (past : List NodeInput) → behind (one ++ other) past ≡ behind other (behind one past)
 lines_then one other past =
-    ap (λ (inputs : List NodeInput). behind inputs past) (map-append to_cluster one other) ∙ behind_both (inputs_of one) (inputs_of other) past
+    ap (λ (inputs : List NodeInput). behind inputs past) (map-append to_cluster one other) ∙ behind_both one other past
 
-lines_front : (cluster : Cluster) (one other : List LineInput) (past : List NodeInput) → MayHappen cluster (behind (inputs_of (one ++ other)) past) →
-    MayHappen cluster (behind (inputs_of one) past)
+lines_front : (cluster : Cluster) (one other : List NodeInput) (past : List NodeInput) → MayHappen cluster (behind (one ++ other) past) →
+    MayHappen cluster (behind one past)
 lines_front cluster one other past may =
-    happened_before cluster (inputs_of other) (behind (inputs_of one) past) (subst (MayHappen cluster) (lines_then one other past) may)
+    happened_before cluster other (behind one past) (subst (MayHappen cluster) (lines_then one other past) may)
 
-lines_back : (cluster : Cluster) (one other : List LineInput) (past : List NodeInput) → MayHappen cluster (behind (inputs_of (one ++ other)) past) →
-    MayHappen cluster (behind (inputs_of other) (behind (inputs_of one) past))
+lines_back : (cluster : Cluster) (one other : List NodeInput) (past : List NodeInput) → MayHappen cluster (behind (one ++ other) past) →
+    MayHappen cluster (behind other (behind one past))
 lines_back cluster one other past may = subst (MayHappen cluster) (lines_then one other past) may
 
 -- inputs behind others that are behind the first ones
@@ -75,11 +75,11 @@ module _ (cluster : Cluster) (m : ℕ) (least_m : 1 ≤ m) (first : List NodeInp
   WorldWell past world = (runner : Runner) → runner_at world m ≡ Some runner → Serves past runner
 
   record MovesWell (past : List NodeInput) (moved : Moved) : Type 0 where
-    well : WorldWell (behind (inputs_of moved.inputs) past) moved.next
+    well : WorldWell (behind moved.inputs past) moved.next
     fine : (print : Print) → In (At m print) moved.prints → Fine print
 
   abbrev May : List NodeInput → Moved → Type 0
-  May past moved = MayHappen cluster (behind (inputs_of moved.inputs) past)
+  May past moved = MayHappen cluster (behind moved.inputs past)
 
   stays_well : (past : List NodeInput) (world : World) → WorldWell past world → MovesWell past (stays world)
   stays_well past world well = record { well = well; fine = λ print among. absurd among }
@@ -98,7 +98,7 @@ module _ (cluster : Cluster) (m : ℕ) (least_m : 1 ≤ m) (first : List NodeInp
       none print (inl same) = cc
       none print (inr nothing) = nothing
 
-  then_well : (past : List NodeInput) (one other : Moved) → MovesWell past one → MovesWell (behind (inputs_of one.inputs) past) other →
+  then_well : (past : List NodeInput) (one other : Moved) → MovesWell past one → MovesWell (behind one.inputs past) other →
       MovesWell past (then_moved one other)
   then_well past one other here there = record {
     well = λ runner is. subst (λ (now : List NodeInput). Serves now runner) (sym (lines_then one.inputs other.inputs past)) (there.well runner is);
@@ -259,7 +259,7 @@ module _ (cluster : Cluster) (m : ℕ) (least_m : 1 ≤ m) (first : List NodeInp
           let other = settles more nodes one.next in
           let here = comes_well past world well next.number next.node (due_least world nodes (range_with_len 1 (length world.packets)) next is)
           (lines_front cluster one.inputs other.inputs past may) in
-          then_well past one other here (others (behind (inputs_of one.inputs) past) one.next here.well (lines_back cluster one.inputs other.inputs past may))
+          then_well past one other here (others (behind one.inputs past) one.next here.well (lines_back cluster one.inputs other.inputs past may))
 
   come_to_well : (number : ℕ) (nodes : List ℕ) → ((node : ℕ) → In node nodes → 1 ≤ node) → (past : List NodeInput) (world : World) → WorldWell past world →
       May past (come_to number nodes world) → MovesWell past (come_to number nodes world)
@@ -270,7 +270,7 @@ module _ (cluster : Cluster) (m : ℕ) (least_m : 1 ≤ m) (first : List NodeInp
       let other = come_to number nodes one.next in
       let here = comes_again_well past world well number node (least node (inl refl)) (lines_front cluster one.inputs other.inputs past may) in
       then_well past one other here
-      (come_to_well number nodes (λ n among. least n (inr among)) (behind (inputs_of one.inputs) past) one.next here.well
+      (come_to_well number nodes (λ n among. least n (inr among)) (behind one.inputs past) one.next here.well
       (lines_back cluster one.inputs other.inputs past may))
 
   all_come_well : (numbers : List ℕ) (past : List NodeInput) (world : World) → WorldWell past world → May past (all_come numbers world) →
@@ -283,7 +283,7 @@ module _ (cluster : Cluster) (m : ℕ) (least_m : 1 ≤ m) (first : List NodeInp
       let here = come_to_well number (node_numbers world) (λ node among. row_least 1 (length world.runners) node among) past world well
       (lines_front cluster one.inputs other.inputs past may) in
       then_well past one other here
-      (all_come_well numbers (behind (inputs_of one.inputs) past) one.next here.well (lines_back cluster one.inputs other.inputs past may))
+      (all_come_well numbers (behind one.inputs past) one.next here.well (lines_back cluster one.inputs other.inputs past may))
 
   replays_well : (more count : ℕ) (past : List NodeInput) (world : World) → WorldWell past world → May past (replays more count world) →
       MovesWell past (replays more count world)
@@ -294,7 +294,7 @@ module _ (cluster : Cluster) (m : ℕ) (least_m : 1 ≤ m) (first : List NodeInp
       let other = replays more count one.next in
       let here = all_come_well (reverse (range_with_len 1 count)) past world well (lines_front cluster one.inputs other.inputs past may) in
       then_well past one other here
-      (replays_well more count (behind (inputs_of one.inputs) past) one.next here.well (lines_back cluster one.inputs other.inputs past may))
+      (replays_well more count (behind one.inputs past) one.next here.well (lines_back cluster one.inputs other.inputs past may))
 
   -- ---- lines
 
@@ -302,12 +302,12 @@ module _ (cluster : Cluster) (m : ℕ) (least_m : 1 ≤ m) (first : List NodeInp
   record LineWell (past : List NodeInput) (done : Stepped) : Type 0 where
     next : World
     stage_is : done.stage ≡ Some next
-    well : WorldWell (behind (inputs_of done.inputs) past) next
+    well : WorldWell (behind done.inputs past) next
     fine : (print : Print) → In (At m print) done.prints → Fine print
 
   module _ (settings : Settings) (past : List NodeInput) (world : World) (well : WorldWell past world) (line : List ℕ) where
     abbrev MayDo : Stepped → Type 0
-    MayDo done = MayHappen cluster (behind (inputs_of done.inputs) past)
+    MayDo done = MayHappen cluster (behind done.inputs past)
 
     does_well : (moved : Moved) (done : Stepped) → stepped moved ≡ Some done → (May past moved → MovesWell past moved) → MayDo done → LineWell past done
     does_well moved done is moves may =
@@ -355,19 +355,19 @@ module _ (cluster : Cluster) (m : ℕ) (least_m : 1 ≤ m) (first : List NodeInp
         by_said (Some said) says is = said_well said done says is
 
   -- what these lines print at the node is fine
-  pub lines_fine : (settings : Settings) (lines : List (List ℕ)) (past : List NodeInput) (world : World) → WorldWell past world → (inputs : List LineInput)
+  pub lines_fine : (settings : Settings) (lines : List (List ℕ)) (past : List NodeInput) (world : World) → WorldWell past world → (inputs : List NodeInput)
       (prints : List WorldPrint) (stage : Stage) → Joins settings (Some world) lines inputs prints stage →
-      MayHappen cluster (behind (inputs_of inputs) past) → (print : Print) → In (At m print) prints → Fine print
+      MayHappen cluster (behind inputs past) → (print : Print) → In (At m print) prints → Fine print
   unfolding Joins
   lines_fine settings [] past world well inputs prints stage joins may print among = absurd (subst (In (At m print)) joins.1 among)
   lines_fine settings (line ∷ lines) past world well inputs prints stage joins may print among =
       let done = joins.0 in
-      let happens = subst (λ (came : List LineInput). MayHappen cluster (behind (inputs_of came) past)) joins.4 may in
+      let happens = subst (λ (came : List NodeInput). MayHappen cluster (behind came past)) joins.4 may in
       let one = line_well settings past world well line done joins.3 (lines_front cluster done.inputs joins.1 past happens) in
       elim (in_either (At m print) done.prints joins.2 (subst (In (At m print)) joins.5 among)) [
         | inl here ↦ one.fine print here
         | inr there ↦
-            lines_fine settings lines (behind (inputs_of done.inputs) past) one.next one.well joins.1 joins.2 stage
+            lines_fine settings lines (behind done.inputs past) one.next one.well joins.1 joins.2 stage
             (subst (λ (middle : Stage). Joins settings middle lines joins.1 joins.2 stage) one.stage_is joins.6)
             (lines_back cluster done.inputs joins.1 past happens) print there
       ]

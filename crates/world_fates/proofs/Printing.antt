@@ -14,14 +14,14 @@ use Rattle.script_text.specs.Settings.{Settings}
 use Rattle.script_world.specs.Prints.{WorldPrint}
 use Rattle.script_world.specs.Script.{Joins, Stage, Stepped, after, moved_by, prints_from, step_by, step_of, stepped}
 use Rattle.script_text.specs.Node.{opened_by}
-use Rattle.script_world.specs.World.{Moved, NodeInput as LineInput, World, comes, crashes, grants, hears, on_replay, on_settle, opened}
+use Rattle.script_world.specs.World.{Moved, World, comes, crashes, grants, hears, on_replay, on_settle, opened}
 use Rattle.script_world.specs.World.{restarts, setup_of, ticks}
 use Rattle.fate_laws.proofs.Behind.{behind}
 use Rattle.fate_laws.proofs.Standing.{opened_fit}
 use Rattle.fate_laws.proofs.Tellings.{FactOfPrints, IsTelling, NodePrint, TakesDeliveries}
 use Rattle.world_fates.specs.Runs.{cluster_of}
 use Rattle.world_fates.proofs.Places.{row_at}
-use Rattle.world_fates.proofs.Worlds.{IsRunner, MovesSo, WorldStands, behind_lines, comes_so, crashes_so, grants_so, hears_so, inputs_of}
+use Rattle.world_fates.proofs.Worlds.{IsRunner, MovesSo, WorldStands, comes_so, crashes_so, grants_so, hears_so}
 use Rattle.world_fates.proofs.Worlds.{member_of, replay_so, restarts_so, settle_so, ticks_so, told_by, told_by_both}
 
 -- ---- lines
@@ -40,12 +40,12 @@ AsksForAnAttempt (Restart node) = ⊥
 AsksForAnAttempt (Replay count) = ⊥
 
 -- lines that join from a world on lead to where what they brought to nodes leads, and what they print was given out
-pub record JoinsSo (cluster : Cluster) (Tells : FactOfPrints) (past : List NodeInput) (inputs : List LineInput)
+pub record JoinsSo (cluster : Cluster) (Tells : FactOfPrints) (past : List NodeInput) (inputs : List NodeInput)
     (prints : List WorldPrint) (stage : Stage) : Type 0 where
   pub world : World
   pub stage_is : stage ≡ Some world
   pub later : List NodeInput
-  pub later_is : later ≡ behind (inputs_of inputs) past
+  pub later_is : later ≡ behind inputs past
   pub stands : WorldStands cluster later world
   pub tell : (last : List NodeInput) (others : List NodePrint) → Tells last later others → Tells last past (told_by prints ++ others)
 
@@ -101,14 +101,14 @@ module _ (settings : Settings) (cluster : Cluster) (Tells : FactOfPrints) (telli
       by_said (Some said) says is = said_so past world stands line said done (λ asks. takes) says is
 
   pub joined_so : TakesDeliveries Tells → (lines : List (List ℕ)) (past : List NodeInput) (world : World) → WorldStands cluster past world →
-      (inputs : List LineInput) (prints : List WorldPrint) (stage : Stage) → Joins settings (Some world) lines inputs prints stage →
+      (inputs : List NodeInput) (prints : List WorldPrint) (stage : Stage) → Joins settings (Some world) lines inputs prints stage →
       JoinsSo cluster Tells past inputs prints stage
   unfolding Joins
   joined_so takes [] past world stands inputs prints stage joins = record {
     world = world;
     stage_is = joins.2;
     later = past;
-    later_is = ap (λ (came : List LineInput). behind (inputs_of came) past) (sym joins.0);
+    later_is = ap (λ (came : List NodeInput). behind came past) (sym joins.0);
     stands = stands;
     tell = λ last others tells. subst (λ (printed : List WorldPrint). Tells last past (told_by printed ++ others)) (sym joins.1) tells;
   }
@@ -122,7 +122,7 @@ module _ (settings : Settings) (cluster : Cluster) (Tells : FactOfPrints) (telli
         stage_is = rest.stage_is;
         later = rest.later;
         later_is = behind_lines done.inputs joins.1 past one.later rest.later one.later_is rest.later_is
-            ∙ ap (λ (came : List LineInput). behind (inputs_of came) past) (sym joins.4);
+            ∙ ap (λ (came : List NodeInput). behind came past) (sym joins.4);
         stands = rest.stands;
         tell = λ last others tells.
             subst (Tells last past)
@@ -169,18 +169,18 @@ opened_stands settings count serial few least = record {
 module _ (settings : Settings) (Tells : Cluster → FactOfPrints)
     (telling : (cluster : Cluster) → IsTelling cluster (Tells cluster)) (takes : (cluster : Cluster) → TakesDeliveries (Tells cluster)) where
   -- what the lines print that lead to a world was given out by a cluster
-  pub record WorldSo (inputs : List LineInput) (world : World) (prints : List WorldPrint) : Type 0 where
+  pub record WorldSo (inputs : List NodeInput) (world : World) (prints : List WorldPrint) : Type 0 where
     pub cluster : Cluster
     pub past : List NodeInput
-    pub past_is : past ≡ behind (inputs_of inputs) []
+    pub past_is : past ≡ behind inputs []
     pub stands : WorldStands cluster past world
     pub tell : (last : List NodeInput) (others : List NodePrint) → Tells cluster last past others → Tells cluster last [] (told_by prints ++ others)
 
-  abbrev pub StageSo : Stage → List LineInput → List WorldPrint → Type 0
+  abbrev pub StageSo : Stage → List NodeInput → List WorldPrint → Type 0
   StageSo None inputs prints = prints ≡ []
   StageSo (Some world) inputs prints = WorldSo inputs world prints
 
-  pub first_so : (lines : List (List ℕ)) (inputs : List LineInput) (prints : List WorldPrint) (stage : Stage) →
+  pub first_so : (lines : List (List ℕ)) (inputs : List NodeInput) (prints : List WorldPrint) (stage : Stage) →
       Joins settings None lines inputs prints stage → StageSo stage inputs prints
   unfolding Joins step_of
   first_so [] inputs prints stage joins = subst (λ (s : Stage). StageSo s inputs prints) (sym joins.2) joins.1
@@ -205,7 +205,7 @@ module _ (settings : Settings) (Tells : Cluster → FactOfPrints)
       by_said None says is later = absurd cc
       by_said (Some Skipped) says is later =
           let on = leads_on None is in
-          subst (StageSo stage inputs) (sym on.0) (subst (λ (came : List LineInput). StageSo stage came joins.2) (sym on.1) (later on.2))
+          subst (StageSo stage inputs) (sym on.0) (subst (λ (came : List NodeInput). StageSo stage came joins.2) (sym on.1) (later on.2))
       by_said (Some (Nodes count serial)) says is later =
           let on = leads_on (Some (opened settings count serial)) is in
           let wording = (spells_within 9 line (Nodes count serial) says).wording in
@@ -216,7 +216,7 @@ module _ (settings : Settings) (Tells : Cluster → FactOfPrints)
           (record {
             cluster = cluster;
             past = rest.later;
-            past_is = rest.later_is ∙ ap (λ (came : List LineInput). behind (inputs_of came) []) (sym on.1);
+            past_is = rest.later_is ∙ ap (λ (came : List NodeInput). behind came []) (sym on.1);
             stands = rest.stands;
             tell = λ last others tells.
                 subst (λ (printed : List WorldPrint). Tells cluster last [] (told_by printed ++ others)) (sym on.0) (rest.tell last others tells);
@@ -234,7 +234,7 @@ module _ (settings : Settings) (Tells : Cluster → FactOfPrints)
 
 pub record GoodLines (settings : Settings) (first : Stage) (prints : List WorldPrint) : Type 0 where
   pub lines : List (List ℕ)
-  pub inputs : List LineInput
+  pub inputs : List NodeInput
   pub last : Stage
   pub joins : Joins settings first lines inputs prints last
 

@@ -19,7 +19,7 @@ use Rattle.script_text.specs.Runner.{Runner}
 use Rattle.script_text.specs.Settings.{Settings}
 use Rattle.script_world.specs.Prints.{At, WorldPrint}
 use Rattle.script_world.specs.Script.{Joins, Stage}
-use Rattle.script_world.specs.World.{NodeInput as LineInput, World, runner_at}
+use Rattle.script_world.specs.World.{World, runner_at}
 use Rattle.fate_laws.proofs.Behind.{after_holds, world_after}
 use Rattle.fate_laws.proofs.Decided.{IsDecided, chosen_decides}
 use Rattle.fate_laws.proofs.InOrder.{Tell, TellFrom, TellsOnlyAt, nothing_from, tell_takes, tell_telling}
@@ -62,7 +62,7 @@ module _ (cluster : Cluster) (past : List NodeInput) (world : World) (stands : W
       chosen_decides there w knows.id said.states.chain knows.final chosen said.states.state
       (nothing_waits there runner least is message_id none knows.id knows.message)
 
-pub fates_reach : (settings : Settings) (before later : List (List ℕ)) (came coming : List LineInput) (prints others : List WorldPrint) (world : World)
+pub fates_reach : (settings : Settings) (before later : List (List ℕ)) (came coming : List NodeInput) (prints others : List WorldPrint) (world : World)
     (last : Stage) (here there : ℕ) (runner : Runner) (first query : Print) (message_id : List ℕ) (one other : ℕ) →
     Joins settings None before came prints (Some world) → Joins settings (Some world) later coming others last → 1 ≤ there →
     runner_at world there ≡ Some runner → NothingWaitsFor runner message_id → In (At here first) prints → In (At there query) others →

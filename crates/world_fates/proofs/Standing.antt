@@ -24,7 +24,7 @@ use Rattle.script_text.proofs.Going.{IsGoing, delivery_goes, grant_goes, octets_
 use Rattle.script_world.specs.Prints.{WorldPrint}
 use Rattle.script_world.specs.Runs.{IsNodeOf, StandsFor}
 use Rattle.script_world.specs.Script.{Joins, Stage, Stepped, moved_by, step_by, step_of, stepped}
-use Rattle.script_world.specs.World.{Due, Moved, NodeInput as LineInput, World, acts, all_come, comes, comes_again, comes_if, comes_to}
+use Rattle.script_world.specs.World.{Due, Moved, World, acts, all_come, comes, comes_again, comes_if, comes_to}
 use Rattle.script_world.specs.World.{crashed, crashes, crashes_if, due, grants, hears, if_due, if_up}
 use Rattle.script_world.specs.World.{is_down, is_up, is_up_at, marked, node_numbers, on_replay, on_settle, opened, packet_of, refuses}
 use Rattle.script_world.specs.World.{replays, restarts, restarts_if, runner_at, setup_of, settles, shared, stays, then_moved, ticks, up_or_refuses}
@@ -34,7 +34,7 @@ use Rattle.fate_laws.proofs.Tellings.{FactOfPrints, IsTelling}
 use Rattle.world_fates.specs.Runs.{IsRun, cluster_of, newest_first}
 use Rattle.world_fates.proofs.Places.{row_at, row_least, set_cases}
 use Rattle.world_fates.proofs.Printing.{joined_so, opened_stands}
-use Rattle.world_fates.proofs.Worlds.{behind_lines, due_least, inputs_of, kept_apart, of_one_node}
+use Rattle.world_fates.proofs.Worlds.{due_least, kept_apart}
 
 module _ (cluster : Cluster) where
   -- ---- a node
@@ -82,13 +82,13 @@ module _ (cluster : Cluster) where
     pub none : (place : ℕ) (runner : Runner) → slice_get world.runners place ≡ Some runner → runner.node.packets ≡ []
 
   abbrev MovesTo : World → Moved → Type 0
-  MovesTo world moved = (past : List NodeInput) → StandsStill past world → StandsStill (behind (inputs_of moved.inputs) past) moved.next
+  MovesTo world moved = (past : List NodeInput) → StandsStill past world → StandsStill (behind moved.inputs past) moved.next
 
   then_to : (world : World) (first other : Moved) → MovesTo world first → MovesTo first.next other → MovesTo world (then_moved first other)
   then_to world first other moves others past stands =
-      let middle = behind (inputs_of first.inputs) past in
+      let middle = behind first.inputs past in
       subst (λ (now : List NodeInput). StandsStill now other.next)
-      (behind_lines first.inputs other.inputs past middle (behind (inputs_of other.inputs) middle) refl refl)
+      (behind_lines first.inputs other.inputs past middle (behind other.inputs middle) refl refl)
       (others middle (moves past stands))
 
   -- ---- a node of many
@@ -129,7 +129,7 @@ module _ (cluster : Cluster) where
         later : List NodeInput
         later = came_to number acted.inputs past
 
-        later_is : behind (inputs_of (shared world number acted).inputs) past ≡ later
+        later_is : behind ((shared world number acted).inputs) past ≡ later
         later_is = ap (λ (inputs : List NodeInput). behind inputs past) (of_one_node number acted.inputs)
 
         newest : HoldsNewest number later (reverse world.packets) acted.next.node
@@ -259,7 +259,7 @@ module _ (cluster : Cluster) where
   record LeadsTo (world : World) (done : Stepped) : Type 0 where
     next : World
     stage_is : done.stage ≡ Some next
-    moves : (past : List NodeInput) → StandsStill past world → StandsStill (behind (inputs_of done.inputs) past) next
+    moves : (past : List NodeInput) → StandsStill past world → StandsStill (behind done.inputs past) next
 
   module _ (settings : Settings) where
     moved_to : (world : World) (moved : Moved) (done : Stepped) → MovesTo world moved → stepped moved ≡ Some done → LeadsTo world done
@@ -307,23 +307,23 @@ module _ (cluster : Cluster) where
         by_said None says is = absurd cc
         by_said (Some said) says is = said_to world line said done says is
 
-    pub lines_to : (lines : List (List ℕ)) (world : World) (inputs : List LineInput) (prints : List WorldPrint) (last : World) →
+    pub lines_to : (lines : List (List ℕ)) (world : World) (inputs : List NodeInput) (prints : List WorldPrint) (last : World) →
         Joins settings (Some world) lines inputs prints (Some last) → (past : List NodeInput) → StandsStill past world →
-        StandsStill (behind (inputs_of inputs) past) last
+        StandsStill (behind inputs past) last
     unfolding Joins
     lines_to [] world inputs prints last joins past still =
         let same : world ≡ last = (let is = joins.2 in cc) in
-        subst (StandsStill (behind (inputs_of inputs) past)) same
-        (subst (λ (came : List LineInput). StandsStill (behind (inputs_of came) past) world) (sym joins.0) still)
+        subst (StandsStill (behind inputs past)) same
+        (subst (λ (came : List NodeInput). StandsStill (behind came past) world) (sym joins.0) still)
     lines_to (line ∷ lines) world inputs prints last joins past still =
         let done = joins.0 in
         let one = line_to world line done joins.3 in
-        let middle = behind (inputs_of done.inputs) past in
+        let middle = behind done.inputs past in
         let rest = lines_to lines one.next joins.1 joins.2 last
         (subst (λ (s : Stage). Joins settings s lines joins.1 joins.2 (Some last)) one.stage_is joins.6) middle (one.moves past still) in
         subst (λ (now : List NodeInput). StandsStill now last)
-        (behind_lines done.inputs joins.1 past middle (behind (inputs_of joins.1) middle) refl refl
-        ∙ ap (λ (came : List LineInput). behind (inputs_of came) past) (sym joins.4)) rest
+        (behind_lines done.inputs joins.1 past middle (behind joins.1 middle) refl refl
+        ∙ ap (λ (came : List NodeInput). behind came past) (sym joins.4)) rest
 
 -- ---- a world that opens
 
@@ -374,10 +374,10 @@ behind_is (next ∷ inputs) past =
     ∙ sym (append_assoc (reverse inputs) (next ∷ []) past)
     ∙ ap (λ (front : List NodeInput). front ++ past) (sym (reverse_onto inputs next []))
 
-newest_is : (inputs : List LineInput) → behind (inputs_of inputs) [] ≡ newest_first inputs
-newest_is inputs = behind_is (inputs_of inputs) [] ∙ append-nil (reverse (inputs_of inputs))
+newest_is : (inputs : List NodeInput) → behind inputs [] ≡ newest_first inputs
+newest_is inputs = behind_is inputs [] ∙ append-nil (reverse inputs)
 
-pub script_run : (settings : Settings) (lines : List (List ℕ)) (came : List LineInput) (prints : List WorldPrint) (world : World) →
+pub script_run : (settings : Settings) (lines : List (List ℕ)) (came : List NodeInput) (prints : List WorldPrint) (world : World) →
     Joins settings None lines came prints (Some world) → IsRun settings lines came world
 unfolding Joins step_of
 script_run settings [] came prints world joins = absurd (let is = joins.2 in cc)
@@ -402,7 +402,7 @@ script_run settings (line ∷ lines) came prints world joins =
     by_said (Some Skipped) says is later =
         let on = leads_on None is in
         let run = later on.1 in
-        subst (λ (inputs : List LineInput). IsRun settings (line ∷ lines) inputs world) (sym on.0)
+        subst (λ (inputs : List NodeInput). IsRun settings (line ∷ lines) inputs world) (sym on.0)
         (record {
           count = run.count;
           serial = run.serial;
@@ -423,7 +423,7 @@ script_run settings (line ∷ lines) came prints world joins =
         first
         (opened_stands settings count serial wording.0.most wording.1) joins.1 joins.2 (Some world) on.1 in
         let still = lines_to cluster settings lines first joins.1 joins.2 world on.1 [] (opened_still settings count serial) in
-        let now : behind (inputs_of joins.1) [] ≡ newest_first came = newest_is joins.1 ∙ ap newest_first (sym on.0) in
+        let now : behind joins.1 [] ≡ newest_first came = newest_is joins.1 ∙ ap newest_first (sym on.0) in
         record {
           count = count;
           serial = serial;

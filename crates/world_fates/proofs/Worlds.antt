@@ -20,7 +20,7 @@ use Rattle.script_text.specs.Prints.{Print}
 use Rattle.script_text.specs.Runner.{Acted, Runner, given_out, most_deliveries, on_delivery, on_grant, on_octets, on_restart, on_tick}
 use Rattle.script_text.specs.Settings.{Settings}
 use Rattle.script_world.specs.Prints.{At, Refuses, StopsSettling, WorldPrint}
-use Rattle.script_world.specs.World.{Due, Moved, NodeInput as LineInput, World, acts, all_come, comes, comes_again, comes_if, comes_to, no_node}
+use Rattle.script_world.specs.World.{Due, Moved, World, acts, all_come, comes, comes_again, comes_if, comes_to, no_node}
 use Rattle.script_world.specs.World.{crashed, crashes, crashes_if, due, due_among, due_at, due_first, grants, hears, if_due, if_up}
 use Rattle.script_world.specs.World.{is_down, is_up, is_up_at, lacks, marked, no_packet, node_numbers, on_replay, on_settle, packet_of}
 use Rattle.script_world.specs.World.{refuses, replays, restarts, restarts_if, runner_at, settles, shared, stays, takes_part, then_moved}
@@ -61,10 +61,10 @@ pub record WorldStands (cluster : Cluster) (past : List NodeInput) (world : Worl
   pub sent : WereSent cluster past world.packets
 
 -- what came to nodes by lines
-abbrev pub to_cluster : LineInput → NodeInput
+abbrev pub to_cluster : NodeInput → NodeInput
 to_cluster next = input_to next.node next.input
 
-abbrev pub inputs_of : List LineInput → List NodeInput
+abbrev pub inputs_of : List NodeInput → List NodeInput
 inputs_of inputs = map to_cluster inputs
 
 -- what is printed at nodes: no other print tells of a fate
@@ -94,17 +94,17 @@ told_by_node node (print ∷ prints) = ap (λ (told : List NodePrint). by_node n
 -- the world stands where what came to nodes leads, and what is printed was given out
 pub record MovesSo (cluster : Cluster) (Tells : FactOfPrints) (past : List NodeInput) (moved : Moved) : Type 0 where
   pub later : List NodeInput
-  pub later_is : later ≡ behind (inputs_of moved.inputs) past
+  pub later_is : later ≡ behind moved.inputs past
   pub stands : WorldStands cluster later moved.next
   pub tell : (last : List NodeInput) (prints : List NodePrint) → Tells last later prints → Tells last past (told_by moved.prints ++ prints)
 
-pub behind_lines : (first others : List LineInput) (past middle later : List NodeInput) → middle ≡ behind (inputs_of first) past →
-    later ≡ behind (inputs_of others) middle → later ≡ behind (inputs_of (first ++ others)) past
+pub behind_lines : (first others : List NodeInput) (past middle later : List NodeInput) → middle ≡ behind first past →
+    later ≡ behind others middle → later ≡ behind (first ++ others) past
 behind_lines first others past middle later first_is others_are =
-    behind_then (inputs_of first) (inputs_of others) past middle later first_is others_are
+    behind_then first others past middle later first_is others_are
     ∙ ap (λ (inputs : List NodeInput). behind inputs past) (sym (map-append to_cluster first others))
 
-abbrev pub at_line : ℕ → Input → LineInput
+abbrev pub at_line : ℕ → Input → NodeInput
 at_line node input = record { node = node; input = input }
 
 pub of_one_node : (node : ℕ) (inputs : List Input) → inputs_of (map (at_line node) inputs) ≡ map (input_to node) inputs
