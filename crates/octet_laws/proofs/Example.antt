@@ -24,9 +24,10 @@ use Rattle.script_text.specs.Runner.{on_frame, on_frames, on_octets, told}
 use Rattle.script_text.specs.Script.{prints_from, step_of}
 use Rattle.script_text.specs.World.{due_among, settles}
 use Rattle.world_fates.specs.Example.{its_message}
-use Rattle.octet_laws.specs.Example.{TwoLinesTellOneFate, answer_line, receipt_line}
+use Rattle.octet_laws.specs.Cancels.{cancel_sm_resp, heard_behind}
+use Rattle.octet_laws.specs.Example.{ACancelIsAnswered, TwoLinesTellOneFate, answer_line, receipt_line}
 use Rattle.octet_laws.specs.Laws.{IsSpelledAs}
-use Rattle.octet_laws.specs.Tellings.{TellsFate}
+use Rattle.octet_laws.specs.Tellings.{TellsFate, esme_rok}
 use Rattle.octet_laws.proofs.Reading.{read_spelled}
 use Rattle.octet_laws.proofs.Words.{tests_lack}
 
@@ -123,4 +124,41 @@ two_lines_tell = record {
   answer_in = inr (inr (inr (inr (inr (inl refl)))));
   receipt = receipt_tells;
   answer = answer_tells;
+}
+
+cancel_line : List ℕ
+cancel_line = codes "pdu 1 1 00000010800000080000000000000004"
+
+cancel_octets : (octets : List ℕ) × (decode_of (drop 8 cancel_line) ≡ Ok octets) × (octets ≡ framed cancel_sm_resp esme_rok 4 [])
+unfolding cancel_line decode_pairs framed
+cancel_octets = (_, refl, refl)
+
+pub cancel_answered : ACancelIsAnswered
+unfolding prints_from step_of said_of words_said named_said nodes_said octets_said octets_parts settle_said nodes_in nodes_with node_at number_of behind said.number_at cut_within decode_pairs encode_with on_octets on_frames on_frame told all_given_up accounts_up session_numbers target_in goes_out_up_to posted_for_all all_posted settles due_among has_record read_pdu framed octets_of receipt_text date_of body_at content_at number_at parameters_at taken_at text_at tlv_at tlvs_from id_in digits heard_behind answer_digits answer_octets answer_pdu cancel_line cancel_octets
+cancel_answered = record {
+  cancelled = cancel_octets.0;
+  cancel_answer = record {
+    is_node = record { least = omega arith; most = omega arith };
+    is_session = record { least = omega arith; most = omega arith };
+    written = cancel_line;
+    among = inl refl;
+    is_pdu = record { node = 1; session = 1; digits = drop 8 cancel_line; line_is = refl; hex = cancel_octets.1 };
+    node_is = refl;
+    session_is = refl;
+  };
+  is_cancel_answer = cancel_octets.2;
+  told = answer_octets.0;
+  query_answer = record {
+    is_node = record { least = omega arith; most = omega arith };
+    is_session = record { least = omega arith; most = omega arith };
+    written = answer_line;
+    among = inl refl;
+    is_pdu = record { node = 2; session = 1; digits = answer_digits; line_is = refl; hex = answer_octets.1 };
+    node_is = refl;
+    session_is = refl;
+  };
+  answer = record { message_id = its_message; final_date = codes "000101000000000+"; message_state = 4; error_code = 0 };
+  is_query_answer = answer_spelled;
+  message = refl;
+  fresh = refl;
 }

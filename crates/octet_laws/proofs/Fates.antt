@@ -13,6 +13,8 @@ use Rattle.smpp_time.specs.Calendar.{date_of}
 use Rattle.smpp_time.specs.Texts.{time_text, two_digits}
 use Rattle.pdu_tables.specs.StatusCodes.{status_code}
 use Rattle.pdu_tables.specs.declared.status.Status.TheVariants as statuses
+use Rattle.pdu_fields.specs.Grammar.{query_answer_parts}
+use Rattle.pdu_bodies.specs.Contents.{query_answer_contents}
 use Rattle.pdu_bodies.specs.declared.pdu.Body.TheVariants.{DeliverSm, QuerySmResp}
 use Rattle.pdu_bodies.specs.declared.pdu.Message.{Message}
 use Rattle.pdu_bodies.specs.declared.pdu.Pdu.{Pdu}
@@ -24,13 +26,13 @@ use Rattle.receipts.specs.Receipts.{receipt_message}
 use Rattle.receipts.specs.Texts.{Report, receipt_text}
 use Rattle.sessions.specs.declared.requested.Requested.{Requested}
 use Rattle.script_lines.specs.Lines.{lines_of}
-use Rattle.script_text.specs.Laws.{StatesFate, pdu_in}
+use Rattle.script_text.specs.Laws.{StatesFate, TellsState, pdu_in}
 use Rattle.script_text.specs.Prints.{AtOnce, Declined, Delivers, Gone, Late, Print, Reports, Ungranted, report_pdu}
 use Rattle.script_text.specs.Pushes.{knows_optional, with_optional}
 use Rattle.script_text.specs.Responses.{final_date_of, reply_pdu}
 use Rattle.script_text.specs.Settings.{script_settings}
 use Rattle.script_text.specs.Prints.{At, WorldPrint}
-use Rattle.script_text.specs.Script.{Stage, prints_of, text_of}
+use Rattle.script_text.specs.Script.{Joins, Stage, prints_of, text_of}
 use Rattle.world_fates.proofs.node.Clear.{IsClear}
 use Rattle.world_fates.proofs.node.Once.{of_all}
 use Rattle.world_fates.proofs.node.Submitted.{WasSubmitted}
@@ -39,7 +41,7 @@ use Rattle.world_fates.proofs.node.Tellings.{by_node}
 use Rattle.world_fates.proofs.Fates.{one_fate}
 use Rattle.world_fates.proofs.Printing.{StageSo, first_so, good_lines}
 use Rattle.world_fates.proofs.Worlds.{told_by, told_by_all}
-use Rattle.octet_laws.specs.Tellings.{AnswersState, IsReceiptText, ReportsState, TellOneFate, TellsFate, message_type}
+use Rattle.octet_laws.specs.Tellings.{IsPdu, esme_rok, query_sm_resp, AnswersState, IsReceiptText, ReportsState, TellOneFate, TellsFate, message_type}
 use Rattle.octet_laws.proofs.Lines.{front_printed, pdu_printed}
 use Rattle.octet_laws.proofs.Printed.{IsMade, MadeAt, MadeFrom, made_takes, made_telling}
 use Rattle.octet_laws.proofs.Reading.{IsClearInFront, answer_read, deliver_back, lacks_zero, message_read, query_back}
@@ -166,38 +168,47 @@ features_are_none esm_class = and_assoc 0x3c esm_class 0xc0 ∙ and_zero_r esm_c
 -- ---- a print
 
 module _ (past : List NodeInput) (clear : (message : Submission) → WasSubmitted past message → IsClear message) (message_id : List ℕ) (state : ℕ) where
-  states : (printed : Print) (pdu : Pdu) (octets : List ℕ) → pdu_in printed ≡ Some pdu → IsMade past printed → IsFrontRead (octets_of pdu) octets →
-      AnswersState octets message_id state ⊎ ReportsState octets message_id state → StatesFate printed message_id state
-  states (AtOnce session own) pdu octets is made are (inl answers) =
-      let it = query_back pdu.body answers.answer (answer_read pdu octets are answers.answer answers.pdu) in
+  queries : (printed : Print) (pdu : Pdu) (octets : List ℕ) → pdu_in printed ≡ Some pdu → IsMade past printed → IsFrontRead (octets_of pdu) octets →
+      (answer : QueryAnswer) → IsPdu octets query_sm_resp esme_rok query_answer_parts (query_answer_contents answer) → answer.message_id ≡ message_id →
+      answer.message_state ≡ state → TellsState printed message_id state
+  queries (AtOnce session own) pdu octets is made are answer spelled message state_is =
+      let it = query_back pdu.body answer (answer_read pdu octets are answer spelled) in
       absurd (made.0 it.answer (ap (λ (p : Pdu). p.body) (some_pdu own pdu is) ∙ it.body_is))
-  states (AtOnce session own) pdu octets is made are (inr reports) =
-      let it = deliver_back pdu.body reports.message (message_read pdu octets are reports.status reports.message reports.pdu) in
-      absurd (made.1 it.message (ap (λ (p : Pdu). p.body) (some_pdu own pdu is) ∙ it.body_is))
-  states (Late session id own) pdu octets is made are (inl answers) =
-      let it = query_back pdu.body answers.answer (answer_read pdu octets are answers.answer answers.pdu) in
+  queries (Late session id own) pdu octets is made are answer spelled message state_is =
+      let it = query_back pdu.body answer (answer_read pdu octets are answer spelled) in
       let reply : pdu ≡ reply_pdu made.requested made.sequence made.id made.answer = sym (some_pdu own pdu is) ∙ made.is in
       let shown = reply_shown made.requested made.sequence made.id made.answer it.answer (ap (λ (p : Pdu). p.body) (sym reply) ∙ it.body_is) in
       let agrees = it.agrees shown.id shown.date in
-      inl (
-        record {
-          pdu = pdu;
-          answer = it.answer;
-          printed = is;
-          status = ap (λ (p : Pdu). p.status) reply ∙ shown.status;
-          body = it.body_is;
-          message = sym agrees.0 ∙ answers.message;
-          state_is = sym agrees.1 ∙ answers.state_is;
-        },
-        answers.final,
-      )
+      record {
+        pdu = pdu;
+        answer = it.answer;
+        printed = is;
+        status = ap (λ (p : Pdu). p.status) reply ∙ shown.status;
+        body = it.body_is;
+        message = sym agrees.0 ∙ message;
+        state_is = sym agrees.1 ∙ state_is;
+      }
+  queries (Delivers session own) pdu octets is made are answer spelled message state_is =
+      let it = query_back pdu.body answer (answer_read pdu octets are answer spelled) in
+      absurd (no_answer _ it.answer (ap (λ (p : Pdu). p.body) (sym made.is ∙ some_pdu own pdu is) ∙ it.body_is))
+  queries (Reports session sequence optional report) pdu octets is made are answer spelled message state_is =
+      let it = query_back pdu.body answer (answer_read pdu octets are answer spelled) in
+      absurd (no_answer _ it.answer (ap (λ (p : Pdu). p.body) (some_pdu (report_pdu sequence optional report) pdu is) ∙ it.body_is))
+  queries (Gone session) pdu octets is made are answer spelled message state_is = absurd cc
+  queries (Declined number) pdu octets is made are answer spelled message state_is = absurd cc
+  queries (Ungranted reason) pdu octets is made are answer spelled message state_is = absurd cc
+
+  states : (printed : Print) (pdu : Pdu) (octets : List ℕ) → pdu_in printed ≡ Some pdu → IsMade past printed → IsFrontRead (octets_of pdu) octets →
+      AnswersState octets message_id state ⊎ ReportsState octets message_id state → StatesFate printed message_id state
+  states printed pdu octets is made are (inl answers) =
+      inl (queries printed pdu octets is made are answers.answer answers.pdu answers.message answers.state_is, answers.final)
+  states (AtOnce session own) pdu octets is made are (inr reports) =
+      let it = deliver_back pdu.body reports.message (message_read pdu octets are reports.status reports.message reports.pdu) in
+      absurd (made.1 it.message (ap (λ (p : Pdu). p.body) (some_pdu own pdu is) ∙ it.body_is))
   states (Late session id own) pdu octets is made are (inr reports) =
       let it = deliver_back pdu.body reports.message (message_read pdu octets are reports.status reports.message reports.pdu) in
       let reply : pdu ≡ reply_pdu made.requested made.sequence made.id made.answer = sym (some_pdu own pdu is) ∙ made.is in
       absurd (reply_delivers_none made.requested made.sequence made.id made.answer it.message (ap (λ (p : Pdu). p.body) (sym reply) ∙ it.body_is))
-  states (Delivers session own) pdu octets is made are (inl answers) =
-      let it = query_back pdu.body answers.answer (answer_read pdu octets are answers.answer answers.pdu) in
-      absurd (no_answer _ it.answer (ap (λ (p : Pdu). p.body) (sym made.is ∙ some_pdu own pdu is) ∙ it.body_is))
   states (Delivers session own) pdu octets is made are (inr reports) =
       let it = deliver_back pdu.body reports.message (message_read pdu octets are reports.status reports.message reports.pdu) in
       let optional = knows_optional made.session in
@@ -207,9 +218,6 @@ module _ (past : List NodeInput) (clear : (message : Submission) → WasSubmitte
       let esm_class = agrees.0 ∙ ap (λ (m : Message). m.esm_class) (sym message) ∙ delivered_features optional made.taken in
       let none = sym (features_are_none made.taken.esm_class) ∙ ap message_type (sym esm_class) ∙ reports.receipt in
       absurd (omega (arith, none))
-  states (Reports session sequence optional report) pdu octets is made are (inl answers) =
-      let it = query_back pdu.body answers.answer (answer_read pdu octets are answers.answer answers.pdu) in
-      absurd (no_answer _ it.answer (ap (λ (p : Pdu). p.body) (some_pdu (report_pdu sequence optional report) pdu is) ∙ it.body_is))
   states (Reports session sequence optional report) pdu octets is made are (inr reports) =
       let it = deliver_back pdu.body reports.message (message_read pdu octets are reports.status reports.message reports.pdu) in
       let message = message_same (with_optional optional (receipt_message report)) it.message
@@ -249,6 +257,25 @@ stage_states (Some world) inputs prints so node printed pdu octets message_id st
     let all = subst (AllByRecursion (MadeAt so.past)) (append-nil (told_by prints)) made.all in
     states so.past so.stands.fit.clear message_id state printed pdu octets is
     (of_all (MadeAt so.past) (told_by prints) (by_node node printed) all (told_by_all node printed prints among)) are tells
+
+-- the same of a query_sm_resp that may tell ENROUTE
+pub lines_tell : (lines : List (List ℕ)) (inputs : List NodeInput) (prints : List WorldPrint) (last : Stage) →
+    Joins script_settings None lines inputs prints last →
+    (node : ℕ) (printed : Print) (pdu : Pdu) (octets message_id : List ℕ) (state : ℕ) → In (At node printed) prints → pdu_in printed ≡ Some pdu →
+    IsFrontRead (octets_of pdu) octets → (answer : QueryAnswer) →
+    IsPdu octets query_sm_resp esme_rok query_answer_parts (query_answer_contents answer) → answer.message_id ≡ message_id →
+    answer.message_state ≡ state → TellsState printed message_id state
+lines_tell lines inputs prints last joins node printed pdu octets message_id state among is are answer spelled message state_is =
+    by_stage last (first_so script_settings (λ cluster. MadeFrom) made_telling (λ cluster. made_takes) lines inputs prints last joins)
+  where
+    by_stage : (stage : Stage) → StageSo script_settings (λ cluster. MadeFrom) made_telling (λ cluster. made_takes) stage inputs prints →
+        TellsState printed message_id state
+    by_stage None so = absurd (subst (In (At node printed)) so among)
+    by_stage (Some world) so =
+        let made = so.tell so.past [] (record { inputs = []; last_is = refl; all = tt }) in
+        let all = subst (AllByRecursion (MadeAt so.past)) (append-nil (told_by prints)) made.all in
+        queries so.past so.stands.fit.clear message_id state printed pdu octets is
+        (of_all (MadeAt so.past) (told_by prints) (by_node node printed) all (told_by_all node printed prints among)) are answer spelled message state_is
 
 line_states : (script front later line message_id : List ℕ) (state : ℕ) → front ++ later ≡ text_of script → In line (lines_of front) →
     TellsFate line message_id state → IsStated script message_id state

@@ -5,3 +5,15 @@ pub mod Receipts
 pub mod Printed
 pub mod Fates
 pub mod Example
+pub mod Holding
+pub mod Streams
+pub mod Ties
+pub mod Numbered
+pub mod Hearing
+pub mod Octets
+pub mod Quiet
+pub mod Walks
+pub mod AtOnce
+pub mod Written
+pub mod Cancelled
+pub mod Deleted

@@ -1,7 +1,11 @@
 -- A PDU that is read of the octets of another has its command, and what stands in front of and in its fields, if its texts have no zero octet.
-use Rattle.std.proofs.Common.{◌≡◌, ℕ, ◌<◌, ◌^◌, List, [], ◌∷◌, ◌++◌, length, drop, Option, Some, None, Ok, refl, sym, ap, subst, ◌∙◌}
+use Rattle.std.proofs.Common.{◌≡◌, ℕ, ◌<◌, ◌^◌, List, [], ◌∷◌, ◌++◌, length, ◌+◌, ◌%◌, take, drop, Option, Some, None, Ok, refl, sym, ap, subst, ◌∙◌}
 use Rattle.std.proofs.Common.{append_assoc, append-nil, arith}
+use Rattle.std.specs.Int.{from_be_bytes, to_be_bytes, w32}
 use Rattle.std.specs.List.{AllByRecursion}
+use Rattle.mc_model.specs.synod.Lists.{In}
+use Rattle.pdu_frames.specs.Frames.{cut}
+use Rattle.pdu_bodies.specs.declared.pdu.Cancel.{Cancel}
 use Rattle.std.proofs.lemmas.Bool.{ltb-true}
 use Rattle.std.proofs.lemmas.Nat.{from_be_bytes-to_be_bytes_4}
 use Rattle.std.proofs.lemmas.List.Elements.{recursion_from_All}
@@ -22,6 +26,8 @@ use Rattle.pdu_codec.proofs.PduSpelling.{read_pdu-takes, served}
 use Rattle.world_fates.proofs.node.Clear.{HasNoZero}
 use Rattle.octet_laws.specs.Laws.{IsSpelledAs}
 use Rattle.octet_laws.specs.Tellings.{IsPdu, deliver_sm, esme_rok, query_sm_resp}
+use Rattle.octet_laws.specs.Cancels.{CancelCame, HasSequence, cancel_sm, cancel_sm_resp}
+use Rattle.octet_laws.proofs.Streams.{cut_octets}
 use Rattle.octet_laws.proofs.Words.{IsFrontRead, IsSplit, Lacks, cons_first, cons_rest, split}
 
 -- ---- texts
@@ -96,6 +102,27 @@ of_deliver bodies.EnquireLink is = absurd cc
 of_deliver bodies.EnquireLinkResp is = absurd cc
 of_deliver bodies.GenericNack is = absurd cc
 
+of_cancelled : (body : Body) → command_in body ≡ commands.CancelSmResp → body ≡ bodies.CancelSmResp
+of_cancelled bodies.CancelSmResp is = refl
+of_cancelled (bodies.BindReceiver bind) is = absurd cc
+of_cancelled (bodies.BindReceiverResp answer) is = absurd cc
+of_cancelled (bodies.BindTransmitter bind) is = absurd cc
+of_cancelled (bodies.BindTransmitterResp answer) is = absurd cc
+of_cancelled (bodies.BindTransceiver bind) is = absurd cc
+of_cancelled (bodies.BindTransceiverResp answer) is = absurd cc
+of_cancelled (bodies.SubmitSm message) is = absurd cc
+of_cancelled (bodies.SubmitSmResp answer) is = absurd cc
+of_cancelled (bodies.DeliverSm message) is = absurd cc
+of_cancelled (bodies.DeliverSmResp answer) is = absurd cc
+of_cancelled (bodies.QuerySm query) is = absurd cc
+of_cancelled (bodies.QuerySmResp answer) is = absurd cc
+of_cancelled (bodies.CancelSm cancel) is = absurd cc
+of_cancelled bodies.Unbind is = absurd cc
+of_cancelled bodies.UnbindResp is = absurd cc
+of_cancelled bodies.EnquireLink is = absurd cc
+of_cancelled bodies.EnquireLinkResp is = absurd cc
+of_cancelled bodies.GenericNack is = absurd cc
+
 -- ---- what is read
 
 -- one body is read of the first octets of another
@@ -140,6 +167,94 @@ read_as pdu octets front read status sequence is fits =
 
     one_command : (one other : Command) → Some one ≡ Some other → one ≡ other
     one_command one other is = cc
+
+-- ---- headers
+
+bytes_back : (number : ℕ) → from_be_bytes w32 (to_be_bytes w32 number) ≡ number % 2 ^ 32
+bytes_back number = omega arith
+
+-- four octets are those of the sequence_number, whatever stands behind
+sequence_in : (command status sequence : ℕ) (body rest : List ℕ) → take 4 (drop 12 (framed command status sequence body ++ rest)) ≡ to_be_bytes w32 sequence
+unfolding framed
+sequence_in command status sequence body rest = refl
+
+status_in : (command status sequence : ℕ) (body rest : List ℕ) → take 4 (drop 8 (framed command status sequence body ++ rest)) ≡ to_be_bytes w32 status
+unfolding framed
+status_in command status sequence body rest = refl
+
+-- a PDU whose front octets are these has their status and sequence_number
+pub record HasHeader (pdu : Pdu) (status sequence : ℕ) : Type 0 where
+  pub status_is : to_be_bytes w32 pdu.status ≡ to_be_bytes w32 status
+  pub sequence_is : to_be_bytes w32 pdu.sequence ≡ to_be_bytes w32 sequence
+
+pub header_read : (pdu : Pdu) (octets : List ℕ) → IsFrontRead (octets_of pdu) octets → (command status sequence : ℕ) (body : List ℕ) →
+    octets ≡ framed command status sequence body → HasHeader pdu status sequence
+unfolding octets_of
+header_read pdu octets front command status sequence body is =
+    let own = command_code (command_in pdu.body) in
+    let same : framed own pdu.status pdu.sequence (body_octets pdu.body) ++ [] ≡ framed command status sequence body ++ front.rest =
+    append-nil _ ∙ front.is ∙ ap (λ (o : List ℕ). o ++ front.rest) is in
+    record {
+      status_is = sym (status_in own pdu.status pdu.sequence (body_octets pdu.body) []) ∙ ap (λ (o : List ℕ). take 4 (drop 8 o)) same
+          ∙ status_in command status sequence body front.rest;
+      sequence_is = sym (sequence_in own pdu.status pdu.sequence (body_octets pdu.body) []) ∙ ap (λ (o : List ℕ). take 4 (drop 12 o)) same
+          ∙ sequence_in command status sequence body front.rest;
+    }
+
+pub status_zero : (pdu : Pdu) (sequence : ℕ) → HasHeader pdu 0 sequence → pdu.status % 2 ^ 32 ≡ 0
+status_zero pdu sequence header = sym (bytes_back pdu.status) ∙ ap (from_be_bytes w32) header.status_is ∙ bytes_back 0
+
+pub framed_same : (command status one other : ℕ) (body : List ℕ) → to_be_bytes w32 one ≡ to_be_bytes w32 other →
+    framed command status one body ≡ framed command status other body
+unfolding framed
+framed_same command status one other body same =
+    ap (λ (octets : List ℕ). to_be_bytes w32 (16 + length body) ++ to_be_bytes w32 command ++ to_be_bytes w32 status ++ octets ++ body) same
+
+-- ---- a cancel_sm_resp, and a cancel_sm
+
+pub cancelled_read : (pdu : Pdu) (octets : List ℕ) → IsFrontRead (octets_of pdu) octets → (sequence : ℕ) →
+    octets ≡ framed cancel_sm_resp esme_rok sequence [] → pdu.body ≡ bodies.CancelSmResp
+cancelled_read pdu octets front sequence is =
+    of_cancelled pdu.body (read_as pdu octets front bodies.CancelSmResp esme_rok sequence is tt).command
+
+pub cancel_came : (stream : List ℕ) → IsOctets stream → (frame : List ℕ) → In frame (cut stream).frames → (pdu : Pdu) → read_pdu frame ≡ Ok pdu →
+    (cancel : Cancel) → pdu.body ≡ bodies.CancelSm cancel → (sequence : ℕ) → to_be_bytes w32 pdu.sequence ≡ to_be_bytes w32 sequence →
+    CancelCame stream sequence cancel.message_id
+unfolding octets_of
+cancel_came stream octets frame among pdu reads cancel body sequence same =
+    let takes = read_pdu-takes frame pdu (cut_octets stream octets frame among) reads in
+    by_body pdu.body body takes.spelled takes.fits.body
+  where
+    by_body : (own : Body) → own ≡ bodies.CancelSm cancel → frame ≡ framed (command_code (command_in own)) pdu.status pdu.sequence (body_octets own) →
+        BodyFits own → CancelCame stream sequence cancel.message_id
+    by_body own is spelled fits = record {
+      frame = frame;
+      among = among;
+      status = pdu.status;
+      cancel = cancel;
+      pdu = record {
+        sequence = sequence;
+        octets_are = spelled
+            ∙ ap (λ (b : Body). framed (command_code (command_in b)) pdu.status pdu.sequence (body_octets b)) is
+            ∙ framed_same cancel_sm pdu.status pdu.sequence sequence (body_octets (bodies.CancelSm cancel)) same;
+        within = subst BodyFits is fits;
+      };
+      sequence_is = refl;
+      message = refl;
+    }
+
+-- a frame that is read has the sequence_number
+pub has_sequence : (stream : List ℕ) → IsOctets stream → (frame : List ℕ) → In frame (cut stream).frames → (pdu : Pdu) → read_pdu frame ≡ Ok pdu →
+    (sequence : ℕ) → to_be_bytes w32 pdu.sequence ≡ to_be_bytes w32 sequence → HasSequence frame sequence
+unfolding octets_of
+has_sequence stream octets frame among pdu reads sequence same =
+    let takes = read_pdu-takes frame pdu (cut_octets stream octets frame among) reads in
+    record {
+      command = command_code (command_in pdu.body);
+      status = pdu.status;
+      body = body_octets pdu.body;
+      octets_are = takes.spelled ∙ framed_same (command_code (command_in pdu.body)) pdu.status pdu.sequence sequence (body_octets pdu.body) same;
+    }
 
 pub answer_read : (pdu : Pdu) (octets : List ℕ) → IsFrontRead (octets_of pdu) octets → (answer : QueryAnswer) →
     IsPdu octets query_sm_resp esme_rok query_answer_parts (query_answer_contents answer) → IsReadAs pdu.body (bodies.QuerySmResp (Some answer))

@@ -1,3 +1,4 @@
 pub mod Tellings
 pub mod Laws
 pub mod Example
+pub mod Cancels
