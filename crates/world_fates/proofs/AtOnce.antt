@@ -90,13 +90,13 @@ module _ (number : ℕ) (node : Node) (requested : Requested) (sequence : ℕ) w
     named : (message_id : List ℕ) → message_id ≡ decimal id → id_in message_id ≡ Some id
     named message_id is = (ids_and_texts message_id id).1 (is_id, is)
 
-    query_known : (query : QueryBody) → NamesMessage (bodies.QuerySm query) id →
+    query_known : (query : QueryBody) → NamesMessage id (bodies.QuerySm query) →
         IsKnown (says (judged_as (admitted (door_at node.setup node.kept) (next_id node.setup node.kept) account (Ask query))))
     query_known query names =
         about_known (λ other. Query other account query.source.digits) (door_at node.setup node.kept).busy (id_in query.message_id) id
         (named query.message_id names)
 
-    cancel_known : (cancel : CancelBody) → NamesMessage (bodies.CancelSm cancel) id →
+    cancel_known : (cancel : CancelBody) → NamesMessage id (bodies.CancelSm cancel) →
         IsKnown (says (judged_as (admitted (door_at node.setup node.kept) (next_id node.setup node.kept) account (Cancels cancel))))
     cancel_known cancel names = by_empty (bytes_eq cancel.message_id [])
       where
@@ -118,7 +118,7 @@ module _ (settings : Settings) (number : ℕ) (node : Node) (session : Session) 
   request_known requested sequence None request known = nothing_known
   request_known requested sequence (Some account) request known = known account
 
-  query_served : (status sequence : ℕ) (query : QueryBody) → NamesMessage (bodies.QuerySm query) id → (state : SessionState) →
+  query_served : (status sequence : ℕ) (query : QueryBody) → NamesMessage id (bodies.QuerySm query) → (state : SessionState) →
       let asked : Pdu = record { status = status; sequence = sequence; body = bodies.QuerySm query } in
       IsKnown (on_done settings number node (came_by settings asked) (on_cell settings.accounts session asked
       (in_state state unfit Asks unfit Asks Drops))).prints
@@ -148,7 +148,7 @@ module _ (settings : Settings) (number : ℕ) (node : Node) (session : Session) 
       by_state states.Transceiver = asks_known
       by_state states.Gone = nothing_known
 
-  cancel_served : (status sequence : ℕ) (cancel : CancelBody) → NamesMessage (bodies.CancelSm cancel) id → (state : SessionState) →
+  cancel_served : (status sequence : ℕ) (cancel : CancelBody) → NamesMessage id (bodies.CancelSm cancel) → (state : SessionState) →
       let asked : Pdu = record { status = status; sequence = sequence; body = bodies.CancelSm cancel } in
       IsKnown (on_done settings number node (came_by settings asked) (on_cell settings.accounts session asked
       (in_state state unfit Asks unfit Asks Drops))).prints
@@ -178,14 +178,14 @@ module _ (settings : Settings) (number : ℕ) (node : Node) (session : Session) 
       by_state states.Transceiver = asks_known
       by_state states.Gone = nothing_known
 
-  body_served : (status sequence : ℕ) (body : Body) → NamesMessage body id → (octets : List ℕ) →
+  body_served : (status sequence : ℕ) (body : Body) → NamesMessage id body → (octets : List ℕ) →
       IsKnown (on_read settings number node session octets (Ok (record { status = status; sequence = sequence; body = body }))).prints
   body_served status sequence (bodies.QuerySm query) names octets = query_served status sequence query names session.state
   body_served status sequence (bodies.CancelSm cancel) names octets = cancel_served status sequence cancel names session.state
   body_served status sequence other names octets = absurd names
 
 pub ids_known : (settings : Settings) (number session : ℕ) (runner : Runner) (frame : List ℕ) (asked : Pdu) (id : ℕ) (pdu : Pdu) → read_pdu frame ≡ Ok asked →
-    NamesMessage asked.body id → IsId id → In (AtOnce session pdu) (on_frame settings number runner frame).prints →
+    NamesMessage id asked.body → IsId id → In (AtOnce session pdu) (on_frame settings number runner frame).prints →
     pdu.status ≢ status_code statuses.InvalidMessageId
 unfolding on_frame
 ids_known settings number session runner frame asked id pdu reads names is_id among =

@@ -56,7 +56,7 @@ opened_came settings before count serial = record {
       (opened_apart settings count serial node asks.runner asks.there) asks.connected);
 }
 
-the_world : (one other : World) → Some one ≡ Some other → one ≡ other
+pub the_world : (one other : World) → Some one ≡ Some other → one ≡ other
 the_world one other is = cc
 
 module _ (settings : Settings) (before : List (List ℕ)) (came : List NodeInput) (prints : List WorldPrint) (world : World)

@@ -21,7 +21,10 @@ use Rattle.script_text.specs.World.{due_among, settles}
 use Rattle.world_fates.specs.Example.{ADeliveryIsTold, TwoNodesTellOneFate}
 
 pub two_nodes_tell : TwoNodesTellOneFate
-unfolding prints_from step_of said_of words_said named_said nodes_said octets_said octets_parts settle_said nodes_in nodes_with node_at number_of behind said.number_at cut_within decode_pairs on_octets on_frames on_frame told all_given_up accounts_up session_numbers target_in goes_out_up_to posted_for_all all_posted settles due_among has_record read_pdu framed body_at content_at number_at parameters_at taken_at text_at tlv_at tlvs_from id_in digits
+unfolding prints_from step_of said_of words_said named_said nodes_said octets_said octets_parts settle_said nodes_in nodes_with node_at number_of behind
+    said.number_at cut_within decode_pairs on_octets on_frames on_frame told all_given_up accounts_up session_numbers target_in goes_out_up_to
+    posted_for_all all_posted settles due_among has_record read_pdu framed body_at content_at number_at parameters_at taken_at text_at tlv_at tlvs_from
+    id_in digits
 two_nodes_tell = record {
   cancel = _;
   receipt = _;
@@ -35,7 +38,10 @@ two_nodes_tell = record {
 }
 
 pub delivery_told : ADeliveryIsTold
-unfolding prints_from step_of said_of words_said named_said nodes_said octets_said octets_parts settle_said tick_said grant_said nodes_in nodes_with node_at number_of behind said.number_at cut_within decode_pairs on_octets on_frames on_frame told all_given_up accounts_up session_numbers target_in goes_out_up_to posted_for_all all_posted settles due_among has_record outcome_by read_pdu framed body_at content_at number_at parameters_at taken_at text_at tlv_at tlvs_from id_in digits
+unfolding prints_from step_of said_of words_said named_said nodes_said octets_said octets_parts settle_said tick_said grant_said nodes_in nodes_with node_at
+    number_of behind said.number_at cut_within decode_pairs on_octets on_frames on_frame told all_given_up accounts_up session_numbers target_in
+    goes_out_up_to posted_for_all all_posted settles due_among has_record outcome_by read_pdu framed body_at content_at number_at parameters_at taken_at
+    text_at tlv_at tlvs_from id_in digits
 delivery_told = record {
   receipt = _;
   among = inr (inr (inr (inl refl)));

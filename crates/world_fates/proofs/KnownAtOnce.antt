@@ -21,7 +21,8 @@ use Rattle.script_text.specs.Prints.{At, WorldPrint}
 use Rattle.script_text.specs.Script.{Joins, Stage}
 use Rattle.script_text.specs.World.{NodeInput, World}
 use Rattle.world_fates.specs.Questions.{TellsAcceptance}
-use Rattle.world_fates.specs.Requests.{AreRead, ComesBy, FrameEndsIn, IsAbout, IsRequest, IsUsedFor}
+use Rattle.world_fates.specs.Refusals.{NamesMessage}
+use Rattle.world_fates.specs.Requests.{AreRead, ComesBy, FrameEndsIn, IsRequest, IsUsedFor}
 use Rattle.world_fates.proofs.Printing.{WorldSo, first_so}
 use Rattle.world_fates.proofs.AtOnce.{ids_known}
 use Rattle.world_fates.proofs.Lines.{AreSound, line_leads}
@@ -36,7 +37,7 @@ use Rattle.world_fates.proofs.Coming.{all_came}
 
 module _ (settings : Settings) (number : ℕ) (runner : Runner) (frame : List ℕ) (id : ℕ) (is_id : IsId id) (sequence : ℕ)
     (reads : word_at 12 frame ≡ sequence → (pdu : Pdu) × (read_pdu frame ≡ Ok pdu))
-    (only : (asked : Pdu) → read_pdu frame ≡ Ok asked → asked.sequence ≡ sequence → IsRequest asked.body → IsAbout id asked.body) where
+    (only : (asked : Pdu) → read_pdu frame ≡ Ok asked → asked.sequence ≡ sequence → IsRequest asked.body → NamesMessage id asked.body) where
   abbrev served_on : Session
   served_on = session_in runner.sessions number
 
@@ -131,7 +132,7 @@ once_by settings (line ∷ lines) first sound inputs prints stage joins node ses
 pub requests_known_at_once : (settings : Settings) (before later : List (List ℕ)) (came coming : List NodeInput) (prints others : List WorldPrint)
     (world : World) (last : Stage) (here node session sequence : ℕ) (first : Print) (id : ℕ) (pdu : Pdu) →
     Joins settings None before came prints (Some world) → Joins settings (Some world) later coming others last → 1 ≤ node → In (At here first) prints →
-    TellsAcceptance first id → IsUsedFor (IsAbout id) settings world later node session sequence → AreRead settings world later node session sequence →
+    TellsAcceptance first id → IsUsedFor (NamesMessage id) settings world later node session sequence → AreRead settings world later node session sequence →
     In (At node (AtOnce session pdu)) others → pdu.sequence ≡ sequence → pdu.status ≢ status_code statuses.InvalidMessageId
 requests_known_at_once settings before later came coming prints others world last here node session sequence first id pdu joins more least first_in accepts
     used read answer_in own =

@@ -30,3 +30,4 @@ pub mod LineEnds
 pub mod Responding
 pub mod Coming
 pub mod KnownAtOnce
+pub mod LaterExample

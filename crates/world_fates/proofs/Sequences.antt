@@ -49,7 +49,7 @@ use Rattle.world_fates.proofs.node.StepsOut.{step_now}
 use Rattle.world_fates.proofs.node.Telling.{reply_is_told}
 use Rattle.world_fates.specs.Questions.{AsksState, IsAskedAt, TellsAcceptance}
 use Rattle.world_fates.specs.Refusals.{NamesMessage}
-use Rattle.world_fates.specs.Requests.{ComesBy, EndsIn, GoesOutOn, IsAbout, IsQueryOf, IsRequest, IsUsedFor}
+use Rattle.world_fates.specs.Requests.{ComesBy, EndsIn, GoesOutOn, IsQueryOf, IsRequest, IsUsedFor}
 use Rattle.world_fates.proofs.Printing.{JoinsSo, WorldSo, first_so, joined_so}
 use Rattle.world_fates.proofs.Given.{GivenFrom, KnowsFate, given_takes, given_telling, given_then_so}
 use Rattle.world_fates.proofs.AtOnce.{ids_known}
@@ -124,7 +124,7 @@ module _ (door : Door) (next : ℕ) (account : List ℕ) (request : Request) whe
   query_waits routes other message_id only wish is admits = absurd cc
 
   -- what waits of a query_sm or a cancel_sm of a message
-  about_waits : (routes : List Route) (body : Body) (id : ℕ) → IsId id → (IsRequest body → IsAbout id body) → (wish : Asked) → IsWish routes body wish →
+  about_waits : (routes : List Route) (body : Body) (id : ℕ) → IsId id → (IsRequest body → NamesMessage id body) → (wish : Asked) → IsWish routes body wish →
       admitted door next account wish ≡ Ok request → id_in request ≡ id
   about_waits routes (bodies.QuerySm query) id is_id only wish is admits =
       let it = query_asked query (ap (admitted door next account) (sym (the_wish (asked.Ask query) wish is)) ∙ admits) in
@@ -270,7 +270,7 @@ late_parts number id other also pdu late is = (cc, cc)
 pub requests_known : (settings : Settings) (before later : List (List ℕ)) (came coming : List NodeInput) (prints others : List WorldPrint) (world : World)
     (last : Stage) (here node session sequence : ℕ) (first : Print) (id other : ℕ) (pdu : Pdu) →
     Joins settings None before came prints (Some world) → Joins settings (Some world) later coming others last → 1 ≤ node →
-    In (At here first) prints → TellsAcceptance first id → IsUsedFor (IsAbout id) settings world later node session sequence →
+    In (At here first) prints → TellsAcceptance first id → IsUsedFor (NamesMessage id) settings world later node session sequence →
     In (At node (Late session other pdu)) others → pdu.sequence ≡ sequence → pdu.status ≢ status_code statuses.InvalidMessageId
 requests_known settings before later came coming prints others world last here node session sequence first id other pdu joins more least first_in accepts used
     answer_in own refused =
@@ -305,7 +305,7 @@ requests_known settings before later came coming prints others world last here n
 pub accepted_known : (settings : Settings) (before : List (List ℕ)) (came : List NodeInput) (prints : List WorldPrint) (world : World) (here : ℕ)
     (first : Print) (id number session : ℕ) (runner : Runner) (frame : List ℕ) (asking pdu : Pdu) →
     Joins settings None before came prints (Some world) → In (At here first) prints → TellsAcceptance first id → read_pdu frame ≡ Ok asking →
-    NamesMessage asking.body id → In (AtOnce session pdu) (on_frame settings number runner frame).prints →
+    NamesMessage id asking.body → In (AtOnce session pdu) (on_frame settings number runner frame).prints →
     pdu.status ≢ status_code statuses.InvalidMessageId
 accepted_known settings before came prints world here first id number session runner frame asking pdu joins first_in accepts reads names =
     let so : WorldSo settings AcceptedFrom accepted_telling accepted_takes came world prints =

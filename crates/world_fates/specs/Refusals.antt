@@ -14,10 +14,10 @@ use Rattle.script_text.specs.Runner.{Runner, on_frame}
 use Rattle.script_text.specs.Settings.{Settings}
 
 -- a query_sm or a cancel_sm has the message_id of this id (SMPP 3.4, 4.8.1 and 4.9.1)
-abbrev pub NamesMessage : Body → ℕ → Type 0
-NamesMessage (QuerySm query) id = query.message_id ≡ decimal id
-NamesMessage (CancelSm cancel) id = cancel.message_id ≡ decimal id
-NamesMessage other id = ⊥
+abbrev pub NamesMessage : ℕ → Body → Type 0
+NamesMessage id (QuerySm query) = query.message_id ≡ decimal id
+NamesMessage id (CancelSm cancel) = cancel.message_id ≡ decimal id
+NamesMessage id other = ⊥
 
 -- Of a frame that reads as a query_sm or a cancel_sm with the message_id of an id a node says at once at no time that there is no such message
 -- (ESME_RINVMSGID: SMPP 3.4, 5.1.3), however much waits there.
@@ -25,7 +25,7 @@ abbrev pub IdsAreNotRefusedAtOnce : Type 0
 IdsAreNotRefusedAtOnce =
     (settings : Settings) (number session : ℕ) (runner : Runner) (frame : List ℕ) (asked : Pdu) (id : ℕ) (pdu : Pdu)
     → read_pdu frame ≡ Ok asked
-    → NamesMessage asked.body id
+    → NamesMessage id asked.body
     → IsId id
     → In (AtOnce session pdu) (on_frame settings number runner frame).prints
     → pdu.status ≢ status_code statuses.InvalidMessageId

@@ -132,10 +132,6 @@ LaterQueriesAreToldTheFate =
 
 -- ---- requests of messages that were taken
 
--- a query_sm or a cancel_sm with the message_id of an id (SMPP 3.4, 4.8.1 and 4.9.1)
-abbrev pub IsAbout : ℕ → Body → Type 0
-IsAbout id body = NamesMessage body id
-
 -- Lines have printed ESME_ROK to the submit_sm of a message, at whatever node. If query_sms and cancel_sms of it come later on a session of whatever
 -- node, with a sequence_number that is used for them alone, then none that waits there is refused later as one for a message that there is not
 -- (ESME_RINVMSGID: SMPP 3.4, 5.1.3).
@@ -148,7 +144,7 @@ LaterRequestsAreNotRefusedAsUnknown =
     → 1 ≤ node
     → In (At here first) prints
     → TellsAcceptance first id
-    → IsUsedFor (IsAbout id) settings world later node session sequence
+    → IsUsedFor (NamesMessage id) settings world later node session sequence
     → In (At node (Late session other pdu)) others
     → pdu.sequence ≡ sequence
     → pdu.status ≢ status_code statuses.InvalidMessageId
@@ -163,7 +159,7 @@ LaterRequestsAreNotRefusedAtOnce =
     → 1 ≤ node
     → In (At here first) prints
     → TellsAcceptance first id
-    → IsUsedFor (IsAbout id) settings world later node session sequence
+    → IsUsedFor (NamesMessage id) settings world later node session sequence
     → AreRead settings world later node session sequence
     → In (At node (AtOnce session pdu)) others
     → pdu.sequence ≡ sequence
@@ -178,6 +174,6 @@ AcceptedIdsAreNotRefusedAtOnce =
     → In (At here first) prints
     → TellsAcceptance first id
     → read_pdu frame ≡ Ok asked
-    → NamesMessage asked.body id
+    → NamesMessage id asked.body
     → In (AtOnce session pdu) (on_frame settings number runner frame).prints
     → pdu.status ≢ status_code statuses.InvalidMessageId

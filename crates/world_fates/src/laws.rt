@@ -5,7 +5,7 @@ ghost use Rattle.world_fates.specs.Deliveries.{
   DeliveredIsPrintedOfWhatWasAnswered,
   PrintedDeliveriesStand,
 };
-ghost use Rattle.world_fates.specs.Example.{ADeliveryIsTold, TwoNodesTellOneFate};
+ghost use Rattle.world_fates.specs.Example.{ADeliveryIsTold, ALaterQueryIsTold, TwoNodesTellOneFate};
 ghost use Rattle.world_fates.specs.Laws.{
   AttemptsAreRefusedAfterAFate,
   DeliveriesComeBeforeFates,
@@ -132,4 +132,9 @@ pub fn two_nodes_tell_one_fate()
 /// And a deliver_sm goes out, is answered ESME_ROK, and the receipt tells DELIVRD.
 pub fn a_delivery_is_told()
     ensures { ADeliveryIsTold }
+{}
+
+/// And a query_sm comes later, at another node, with a sequence_number that is used for it alone, and is told DELETED.
+pub fn a_later_query_is_told()
+    ensures { ALaterQueryIsTold }
 {}
