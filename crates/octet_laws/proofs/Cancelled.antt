@@ -25,7 +25,7 @@ use Rattle.script_text.specs.Settings.{script_settings}
 use Rattle.script_text.specs.Prints.{At, WorldPrint, world_text}
 use Rattle.script_text.specs.Script.{Joins, Stage, Stepped, step_by, step_of}
 use Rattle.script_text.specs.World.{NodeInput, World}
-use Rattle.octet_laws.specs.Cancels.{CancelCame, IsCancelAnswer, Writes, brought, gone_line, heard_behind, heard_on, heard_then, written_then}
+use Rattle.octet_laws.specs.Sessions.{CancelCame, IsCancelAnswer, Writes, brought, gone_line, heard_behind, heard_on, heard_then, written_then}
 use Rattle.octet_laws.proofs.Lines.{brought_by, session_of}
 use Rattle.octet_laws.proofs.Reading.{cancel_came, cancelled_read, header_read, status_zero}
 use Rattle.octet_laws.proofs.Streams.{octets_both, octets_of_none}
@@ -103,7 +103,7 @@ answering number stream (Delivers session own) pdu right is at body status =
     same : Some own ≡ Some pdu → own ≡ pdu
     same is = cc
 answering number stream (Late session id own) pdu right is at body status =
-    let it = right (there at) (ap (λ (p : Pdu). p.body) (same is) ∙ body) (ap (λ (p : Pdu). p.status % 2 ^ 32) (same is) ∙ status) in
+    let it = right.0 (there at) (ap (λ (p : Pdu). p.body) (same is) ∙ body) (ap (λ (p : Pdu). p.status % 2 ^ 32) (same is) ∙ status) in
     record {
       id = id;
       printed_is = λ i. Late (there at i) id (same is i);
@@ -128,7 +128,7 @@ answering number stream (Declined reason) pdu right is at body status = absurd c
 answering number stream (Ungranted reason) pdu right is at body status = absurd cc
 
 -- a line that prints has a world in front of it
-none_prints : (line : List ℕ) (done : Stepped) → step_of script_settings None line ≡ Some done → done.prints ≡ []
+pub none_prints : (line : List ℕ) (done : Stepped) → step_of script_settings None line ≡ Some done → done.prints ≡ []
 unfolding step_of
 none_prints line done is = by_said (said_within 9 line) is
   where

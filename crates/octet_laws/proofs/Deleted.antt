@@ -28,12 +28,14 @@ use Rattle.world_fates.proofs.Fresh.{later_queries}
 use Rattle.world_fates.proofs.Printing.{first_so}
 use Rattle.world_fates.proofs.Granting.{attempts_refused}
 use Rattle.world_fates.proofs.Lines.{printed_at}
-use Rattle.octet_laws.specs.Cancels.{ACancelledMessageStaysDeleted, HasSequence, IsGrantedNoMore, IsToldDeleted, heard_on}
+use Rattle.octet_laws.specs.Laws.{ACancelledMessageStaysDeleted}
+use Rattle.octet_laws.specs.Sessions.{IsRequest, IsGrantedNoMore, IsToldDeleted, heard_on}
 use Rattle.octet_laws.proofs.Cancelled.{IsCancelled, heard_octets, is_cancelled, least_node, none_framed}
-use Rattle.octet_laws.proofs.Fates.{lines_tell}
+use Rattle.octet_laws.proofs.Fates.{lines_tell, some_pdu}
 use Rattle.octet_laws.proofs.Lines.{brought_by, session_of}
 use Rattle.octet_laws.proofs.Printed.{MadeFrom, made_takes, made_telling}
-use Rattle.octet_laws.proofs.Reading.{has_sequence, header_read}
+use Rattle.octet_laws.proofs.Queried.{some_number}
+use Rattle.octet_laws.proofs.Reading.{header_read, is_request}
 use Rattle.octet_laws.proofs.Streams.{octets_of_none}
 use Rattle.octet_laws.proofs.Written.{IsWritten, lines_hear, written_so}
 
@@ -204,12 +206,12 @@ module _ (before : List (List ℕ)) (line : List ℕ) (node session sequence : �
       Joins script_settings None front came prints (Some world) → (other number : ℕ) → 1 ≤ other → (sequence : ℕ) → IsAskedAt world other number sequence →
       (there at : ℕ) → IsNode there → IsSession at → decimal other ≡ decimal there → decimal number ≡ decimal at → (also : ℕ) →
       to_be_bytes w32 sequence ≡ to_be_bytes w32 also →
-      ((frame : List ℕ) → In frame (cut (heard_on there at front)).frames → HasSequence frame also → ⊥) → ⊥
+      ((frame : List ℕ) → In frame (cut (heard_on there at front)).frames → IsRequest frame also → ⊥) → ⊥
   none_waited front came prints world joins other number least sequence asked there at is_node is_session nodes sessions also bytes none =
       let hears = lines_hear other number least front came prints (Some world) joins in
       let stream = heard_on other number front in
       let tied = ((hears.0 asked.runner asked.there).sound.each asked.session asked.connected).tied asked.request asked.waits in
-      let has = has_sequence stream (heard_octets other number [] [] front octets_of_none) tied.frame tied.among tied.pdu tied.reads also
+      let has = is_request stream (heard_octets other number [] [] front octets_of_none) tied.frame tied.among tied.pdu tied.reads tied.asks also
       (ap (to_be_bytes w32) (tied.sequence_is ∙ asked.sequence_is) ∙ bytes) in
       elim hears.1 [
         | inl nothing ↦ none_framed tied.frame (subst (λ (s : List ℕ). In tied.frame (cut s).frames) nothing tied.among)
@@ -231,12 +233,6 @@ module _ (before : List (List ℕ)) (line : List ℕ) (node session sequence : �
     where
       print_now : Print
       print_now = Late session it.id it.pdu
-
-      some_pdu : (one other : Pdu) → Some one ≡ Some other → one ≡ other
-      some_pdu one other is = cc
-
-      some_number : (one other : ℕ) → Some one ≡ Some other → one ≡ other
-      some_number one other is = cc
 
       by_middle : IsWritten ((lines ++ meanwhile) ++ later) asking → (came : List NodeInput) (prints : List WorldPrint) (middle : Stage) →
           Joins script_settings None (lines ++ meanwhile) came prints middle → In (At node print_now) prints → answer.message_state ≡ 4

@@ -24,7 +24,7 @@ use Rattle.script_text.specs.Runner.{on_frame, on_frames, on_octets, told}
 use Rattle.script_text.specs.Script.{prints_from, step_of}
 use Rattle.script_text.specs.World.{due_among, settles}
 use Rattle.world_fates.specs.Example.{its_message}
-use Rattle.octet_laws.specs.Cancels.{cancel_sm_resp, heard_behind}
+use Rattle.octet_laws.specs.Sessions.{cancel_sm_resp, heard_behind}
 use Rattle.octet_laws.specs.Example.{ACancelIsAnswered, TwoLinesTellOneFate, answer_line, receipt_line}
 use Rattle.octet_laws.specs.Laws.{IsSpelledAs}
 use Rattle.octet_laws.specs.Tellings.{TellsFate, esme_rok}

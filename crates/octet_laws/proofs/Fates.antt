@@ -39,6 +39,7 @@ use Rattle.world_fates.proofs.node.Submitted.{WasSubmitted}
 use Rattle.world_fates.proofs.node.Telling.{refusal_delivers_none, refusal_tells_none}
 use Rattle.world_fates.proofs.node.Tellings.{by_node}
 use Rattle.world_fates.proofs.Fates.{one_fate}
+use Rattle.world_fates.proofs.Named.{IsNamed, NamedFrom, TellsNamed, named_takes, named_telling}
 use Rattle.world_fates.proofs.Printing.{StageSo, first_so, good_lines}
 use Rattle.world_fates.proofs.Worlds.{told_by, told_by_all}
 use Rattle.octet_laws.specs.Tellings.{IsPdu, esme_rok, query_sm_resp, AnswersState, IsReceiptText, ReportsState, TellOneFate, TellsFate, message_type}
@@ -48,7 +49,7 @@ use Rattle.octet_laws.proofs.Reading.{IsClearInFront, answer_read, deliver_back,
 use Rattle.octet_laws.proofs.Receipts.{receipt_told}
 use Rattle.octet_laws.proofs.Words.{IsFrontRead, Lacks, both_lack, decimal_lacks, tests_lack}
 
-some_pdu : (one other : Pdu) → Some one ≡ Some other → one ≡ other
+pub some_pdu : (one other : Pdu) → Some one ≡ Some other → one ≡ other
 some_pdu one other is = cc
 
 -- ---- a reply to a request that waited
@@ -276,6 +277,20 @@ lines_tell lines inputs prints last joins node printed pdu octets message_id sta
         let all = subst (AllByRecursion (MadeAt so.past)) (append-nil (told_by prints)) made.all in
         queries so.past so.stands.fit.clear message_id state printed pdu octets is
         (of_all (MadeAt so.past) (told_by prints) (by_node node printed) all (told_by_all node printed prints among)) are answer spelled message state_is
+
+-- and it answers a request that waited
+pub lines_name : (lines : List (List ℕ)) (inputs : List NodeInput) (prints : List WorldPrint) (last : Stage) →
+    Joins script_settings None lines inputs prints last → (node : ℕ) (printed : Print) (message_id : List ℕ) (state : ℕ) → In (At node printed) prints →
+    TellsState printed message_id state → IsNamed printed message_id
+lines_name lines inputs prints last joins node printed message_id state among tells =
+    by_stage last (first_so script_settings (λ cluster. NamedFrom) named_telling (λ cluster. named_takes) lines inputs prints last joins)
+  where
+    by_stage : (stage : Stage) → StageSo script_settings (λ cluster. NamedFrom) named_telling (λ cluster. named_takes) stage inputs prints →
+        IsNamed printed message_id
+    by_stage None so = absurd (subst (In (At node printed)) so among)
+    by_stage (Some world) so =
+        of_all TellsNamed (told_by prints) (by_node node printed) (subst (AllByRecursion TellsNamed) (append-nil (told_by prints)) (so.tell [] [] tt))
+        (told_by_all node printed prints among) message_id state tells
 
 line_states : (script front later line message_id : List ℕ) (state : ℕ) → front ++ later ≡ text_of script → In line (lines_of front) →
     TellsFate line message_id state → IsStated script message_id state

@@ -23,12 +23,13 @@ use Rattle.pdu_bodies.specs.declared.pdu.Body.TheVariants as bodies
 use Rattle.pdu_bodies.specs.declared.pdu.Cancel.{Cancel as CancelBody}
 use Rattle.pdu_bodies.specs.declared.pdu.Message.{Message}
 use Rattle.pdu_bodies.specs.declared.pdu.Pdu.{Pdu}
+use Rattle.pdu_bodies.specs.declared.pdu.Query.{Query as QueryBody}
 use Rattle.pdu_codec.specs.Bodies.{command_in}
 use Rattle.pdu_codec.specs.Grammar.{word_at}
 use Rattle.pdu_codec.specs.Pdu.{read_pdu}
 use Rattle.pdu_fields.specs.declared.fault.PduFault.{PduFault}
 use Rattle.pdu_fields.specs.declared.fault.PduFault.TheVariants as faults
-use Rattle.pdu_tables.specs.CommandCodes.{command_of}
+use Rattle.pdu_tables.specs.CommandCodes.{command_code, command_of}
 use Rattle.pdu_tables.specs.declared.status.Status.{Status}
 use Rattle.pdu_tables.specs.declared.status.Status.TheVariants as statuses
 use Rattle.sessions.specs.Session.{Session}
@@ -146,11 +147,27 @@ of_cancel routes (bodies.CancelSm other) cancel is = ap bodies.CancelSm (same ot
     same other is = cc
 of_cancel routes other cancel is = absurd cc
 
+of_query : (routes : List Route) (body : Body) (query : QueryBody) → request_of routes body ≡ Some (asked.Ask query) → body ≡ bodies.QuerySm query
+of_query routes (bodies.QuerySm other) query is = ap bodies.QuerySm (same other is)
+  where
+    same : (other : QueryBody) → Some (asked.Ask other) ≡ Some (asked.Ask query) → other ≡ query
+    same other is = cc
+of_query routes other query is = absurd cc
+
+-- the command_id of a request
+of_request : (routes : List Route) (body : Body) (request : Request) → request_of routes body ≡ Some request →
+    command_code (command_in body) < 0x80000000
+of_request routes (bodies.SubmitSm message) request is = omega arith
+of_request routes (bodies.QuerySm query) request is = omega arith
+of_request routes (bodies.CancelSm cancel) request is = omega arith
+of_request routes other request is = absurd cc
+
 admits : (routes : List Route) (body : Body) (door : Door) (next : ℕ) (account : List ℕ) (request : Request) (waited : Waited) →
     request_of routes body ≡ Some request → admitted door next account request ≡ Ok waited → Names body waited
 admits routes body door next account (asked.Submit message target) waited brings is = submit_names body door next account message target waited is
 admits routes body door next account (asked.Ask query) waited brings is =
-    asks_names body (λ id. Query id account query.source.digits) door.busy (id_in query.message_id) waited is (λ id found. tt)
+    asks_names body (λ id. Query id account query.source.digits) door.busy (id_in query.message_id) waited is
+    (λ id found. (query, of_query routes body query brings, sym ((ids_and_texts query.message_id id).0 found).1))
 admits routes body door next account (asked.Cancel cancel) waited brings is = by_test (bytes_eq cancel.message_id []) is
   where
     by_test : (test : Bool) → (if test then Err statuses.CancelFailed
@@ -169,6 +186,7 @@ pub record IsBegun (frame : List ℕ) (kept next : Kept) (request : OpenRequest)
   pub pdu : Pdu
   pub reads : read_pdu frame ≡ Ok pdu
   pub sequence_is : pdu.sequence ≡ request.sequence
+  pub asks : command_code (command_in pdu.body) < 0x80000000
   pub names : ((h : Held) → In h kept.held → ticket_of h < kept.ticket) → (h : Held) → In h next.held → ticket_of h ≡ request.ticket →
       Names pdu.body h.waiting.request
 
@@ -229,6 +247,7 @@ module _ (frame : List ℕ) (node : Node) (at : ℕ) (before : Session) where
           pdu = pdu;
           reads = reads;
           sequence_is = refl;
+          asks = of_request settings.routes pdu.body request brings;
           names = λ given h among same. elim (so.held h among) [
             | inl old ↦
                 absurd (let below = given old.from old.among in let first = old.ticket in let next = it.ticket_is in omega (arith, same, below, first, next))

@@ -2,7 +2,7 @@
 use Rattle.std.proofs.Common.{◌≡◌, ◌⊎◌, ℕ, ◌<◌, ◌≤◌, Bool, true, false, List, [], ◌∷◌, map, Option, Some, None, refl}
 use Rattle.std.proofs.Common.{sym, ◌∙◌, ap, subst, inl, inr, arith}
 use Rattle.std.specs.Prelude.{◌==◌, if◌then◌else◌, filter, max, pred}
-use Rattle.mc_model.specs.message.Decree.{Decree}
+use Rattle.mc_model.specs.message.Decree.{Attempt, Decree, Deleted, Delivered, Expired, Failed, Fate, Kind, Rejected, Taken, Undeliverable}
 use Rattle.mc_model.specs.message.Chain.{taken_in}
 use Rattle.mc_model.specs.message.Submission.{Submission}
 use Rattle.mc_model.specs.synod.Lists.{In}
@@ -13,11 +13,12 @@ use Rattle.mc_model.specs.node.Input.{Arrival, Crash, Delivery, Grant, Input, Re
 use Rattle.mc_model.specs.node.FirstRule.{Close, Delete, Expire, Follow, GiveUp, Lose, Rule, Take, Try, Undeliver}
 use Rattle.mc_model.specs.node.Outcome.{Outcome}
 use Rattle.mc_model.specs.node.Outputs.{Reply}
-use Rattle.mc_model.specs.node.Replies.{Answer, NotOwner, Removed, Shown, TooLate}
+use Rattle.mc_model.specs.node.Replies.{Answer, NotMatched, NotOwner, Removed, Shown, TooLate}
 use Rattle.mc_model.specs.node.Setup.{Setup}
 use Rattle.mc_parts.proofs.Membership.{in_filter, in_two}
 use Rattle.node_laws.proofs.invariant.Orders.{in_mapped}
-use Rattle.node_model.specs.Answers.{answer_by, answer_to, is_owner, query_shown, replied, replies_to, still_waits}
+use Rattle.node_model.specs.Answers.{answer_by, cancel_answer, cancel_answer_of, cancel_decided, is_match, answer_to, is_owner}
+use Rattle.node_model.specs.Answers.{query_shown, replied, replies_to, still_waits}
 use Rattle.node_model.specs.Attempts.{closed_by, concluded, on_response}
 use Rattle.node_model.specs.Kept.{Held, Kept, message_at, with_message}
 use Rattle.node_model.specs.Learner.{heard, makes_known}
@@ -49,13 +50,20 @@ pub record IsNew (input : Input) (before after : Kept) (h : Held) : Type 0 where
   pub below : before.ticket < after.ticket
   pub request : input ≡ Arrival h.waiting.request
 
--- a reply is to a request that waited, and ESME_ROK to a cancel_sm is to one
+-- it is a query_sm
+abbrev pub IsQuery : Request → Type 0
+IsQuery (Submit id message) = ⊥
+IsQuery (Query id account source) = Unit {0}
+IsQuery (Cancel id account source destination) = ⊥
+
+-- a reply is to a request that waited, and ESME_ROK to a cancel_sm is to one, and to a query_sm too
 pub record IsReplied (held : List Held) (reply : Reply) : Type 0 where
   pub from : Held
   pub among : In from held
   pub ticket : ticket_of from ≡ reply.ticket
   pub id : id_of from ≡ reply.id
   pub removed : (chain : List Decree) → reply.answer ≡ Removed chain → is_cancel from.waiting.request ≡ true
+  pub shown : (chain : List Decree) → reply.answer ≡ Shown chain → IsQuery from.waiting.request
 
 -- the ticket that a step gives is the next one
 pub record IsGiven (input : Input) (before after : Kept) (ticket : ℕ) : Type 0 where
@@ -126,6 +134,38 @@ removed_by (Some decrees) true settled (Query id account source) chain is = absu
     shown (Some taken) is = by_test (is_owner taken account source) is
 removed_by known reached settled (Cancel id account source destination) chain is = refl
 
+shown_by : (known : Option (List Decree)) (reached settled : Bool) (request : Request) (chain : List Decree) →
+    answer_by known reached settled request ≡ Some (Shown chain) → IsQuery request
+shown_by None reached settled (Submit id message) chain is = absurd cc
+shown_by (Some decrees) reached settled (Submit id message) chain is = absurd cc
+shown_by known reached settled (Query id account source) chain is = tt
+shown_by None true settled (Cancel id account source destination) chain is = absurd cc
+shown_by None false settled (Cancel id account source destination) chain is = absurd cc
+shown_by (Some decrees) reached false (Cancel id account source destination) chain is = absurd cc
+shown_by (Some decrees) reached true (Cancel id account source destination) chain is = absurd (decided (taken_in decrees) is)
+  where
+    by_kind : (kind : Kind) (all : List Decree) → cancel_answer kind all ≡ Some (Shown chain) → ⊥
+    by_kind (Taken message) all is = cc
+    by_kind (Attempt number) all is = cc
+    by_kind (Failed error) all is = cc
+    by_kind (Fate Delivered error) all is = cc
+    by_kind (Fate Expired error) all is = cc
+    by_kind (Fate Deleted error) all is = cc
+    by_kind (Fate Undeliverable error) all is = cc
+    by_kind (Fate Rejected error) all is = cc
+
+    by_chain : (all : List Decree) → cancel_answer_of all ≡ Some (Shown chain) → ⊥
+    by_chain [] is = cc
+    by_chain (newest ∷ older) is = by_kind newest.kind (newest ∷ older) is
+
+    by_test : (test : Bool) → (if test then cancel_answer_of decrees else Some (NotMatched decrees)) ≡ Some (Shown chain) → ⊥
+    by_test true is = by_chain decrees is
+    by_test false is = cc
+
+    decided : (taken : Option Submission) → cancel_decided account source destination decrees taken ≡ Some (Shown chain) → ⊥
+    decided None is = cc
+    decided (Some taken) is = by_test (is_match taken account source destination) is
+
 replied_so : (held : List Held) (nodes : ℕ) (known : Option (List Decree)) (h from : Held) → In from held → ticket_of h ≡ ticket_of from →
     h.waiting.request ≡ from.waiting.request → (answer : Answer) → answer_to nodes known h ≡ Some answer →
     IsReplied held (record { ticket = ticket_of h; id = id_of h; answer = answer })
@@ -136,6 +176,7 @@ replied_so held nodes known h from among ticket request answer is = record {
   id = ap id_in (sym request);
   removed = λ chain removed.
       ap is_cancel (sym request) ∙ removed_by known _ h.waiting.settled h.waiting.request chain (is ∙ ap Some removed);
+  shown = λ chain shown. subst IsQuery request (shown_by known _ h.waiting.settled h.waiting.request chain (is ∙ ap Some shown));
 }
 
 module _ (nodes id : ℕ) (known : Option (List Decree)) where
@@ -343,6 +384,7 @@ tick_so input setup k moment up = record {
         ticket = ap (λ (r : Reply). r.ticket) (sym it.is);
         id = ap (λ (r : Reply). r.id) (sym it.is);
         removed = λ chain is. absurd (never chain (ap (λ (r : Reply). r.answer) (sym it.is) ∙ is));
+        shown = λ chain is. absurd (never_shown chain (ap (λ (r : Reply). r.answer) (sym it.is) ∙ is));
       };
   given = λ ticket is. no_ticket ticket is;
 }
@@ -358,6 +400,9 @@ tick_so input setup k moment up = record {
 
     never : (chain : List Decree) → TooLate ≡ Removed chain → ⊥
     never chain is = cc
+
+    never_shown : (chain : List Decree) → TooLate ≡ Shown chain → ⊥
+    never_shown chain is = cc
 
 arrival_so : (setup : Setup) (k : Kept) (request : Request) → StepSo (Arrival request) k (on_arrival setup k request)
 arrival_so setup k request = record {

@@ -17,3 +17,4 @@ pub mod AtOnce
 pub mod Written
 pub mod Cancelled
 pub mod Deleted
+pub mod Queried

@@ -260,6 +260,7 @@ module _ (number : ℕ) (stream : List ℕ) (settings : Settings) where
         pdu = new.pdu;
         reads = new.reads;
         sequence_is = new.sequence_is;
+        asks = new.asks;
         names = new.names s.sound.given;
       }
     ]
@@ -516,5 +517,6 @@ octets_own number stream settings runner octets hears =
       pdu = tied.pdu;
       reads = tied.reads;
       sequence_is = tied.sequence_is;
+      asks = tied.asks;
       names = tied.names;
     }

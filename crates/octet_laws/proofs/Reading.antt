@@ -20,13 +20,14 @@ use Rattle.pdu_bodies.specs.declared.pdu.Body.{Body}
 use Rattle.pdu_bodies.specs.declared.pdu.Body.TheVariants as bodies
 use Rattle.pdu_bodies.specs.declared.pdu.Message.{Message}
 use Rattle.pdu_bodies.specs.declared.pdu.Pdu.{Pdu}
+use Rattle.pdu_bodies.specs.declared.pdu.Query.{Query}
 use Rattle.pdu_bodies.specs.declared.pdu.QueryAnswer.{QueryAnswer}
 use Rattle.pdu_codec.specs.Pdu.{framed, octets_of, read_pdu}
 use Rattle.pdu_codec.proofs.PduSpelling.{read_pdu-takes, served}
 use Rattle.world_fates.proofs.node.Clear.{HasNoZero}
 use Rattle.octet_laws.specs.Laws.{IsSpelledAs}
 use Rattle.octet_laws.specs.Tellings.{IsPdu, deliver_sm, esme_rok, query_sm_resp}
-use Rattle.octet_laws.specs.Cancels.{CancelCame, HasSequence, cancel_sm, cancel_sm_resp}
+use Rattle.octet_laws.specs.Sessions.{CancelCame, QueryCame, query_sm, IsRequest, cancel_sm, cancel_sm_resp}
 use Rattle.octet_laws.proofs.Streams.{cut_octets}
 use Rattle.octet_laws.proofs.Words.{IsFrontRead, IsSplit, Lacks, cons_first, cons_rest, split}
 
@@ -243,14 +244,41 @@ cancel_came stream octets frame among pdu reads cancel body sequence same =
       message = refl;
     }
 
--- a frame that is read has the sequence_number
-pub has_sequence : (stream : List ℕ) → IsOctets stream → (frame : List ℕ) → In frame (cut stream).frames → (pdu : Pdu) → read_pdu frame ≡ Ok pdu →
-    (sequence : ℕ) → to_be_bytes w32 pdu.sequence ≡ to_be_bytes w32 sequence → HasSequence frame sequence
+pub query_came : (stream : List ℕ) → IsOctets stream → (frame : List ℕ) → In frame (cut stream).frames → (pdu : Pdu) → read_pdu frame ≡ Ok pdu →
+    (query : Query) → pdu.body ≡ bodies.QuerySm query → (sequence : ℕ) → to_be_bytes w32 pdu.sequence ≡ to_be_bytes w32 sequence →
+    QueryCame stream sequence query.message_id
 unfolding octets_of
-has_sequence stream octets frame among pdu reads sequence same =
+query_came stream octets frame among pdu reads query body sequence same =
+    let takes = read_pdu-takes frame pdu (cut_octets stream octets frame among) reads in
+    by_body pdu.body body takes.spelled takes.fits.body
+  where
+    by_body : (own : Body) → own ≡ bodies.QuerySm query → frame ≡ framed (command_code (command_in own)) pdu.status pdu.sequence (body_octets own) →
+        BodyFits own → QueryCame stream sequence query.message_id
+    by_body own is spelled fits = record {
+      frame = frame;
+      among = among;
+      status = pdu.status;
+      query = query;
+      pdu = record {
+        sequence = sequence;
+        octets_are = spelled
+            ∙ ap (λ (b : Body). framed (command_code (command_in b)) pdu.status pdu.sequence (body_octets b)) is
+            ∙ framed_same query_sm pdu.status pdu.sequence sequence (body_octets (bodies.QuerySm query)) same;
+        within = subst BodyFits is fits;
+      };
+      sequence_is = refl;
+      message = refl;
+    }
+
+-- a frame that is read is a request with the sequence_number
+pub is_request : (stream : List ℕ) → IsOctets stream → (frame : List ℕ) → In frame (cut stream).frames → (pdu : Pdu) → read_pdu frame ≡ Ok pdu →
+    command_code (command_in pdu.body) < 0x80000000 → (sequence : ℕ) → to_be_bytes w32 pdu.sequence ≡ to_be_bytes w32 sequence → IsRequest frame sequence
+unfolding octets_of
+is_request stream octets frame among pdu reads asks sequence same =
     let takes = read_pdu-takes frame pdu (cut_octets stream octets frame among) reads in
     record {
       command = command_code (command_in pdu.body);
+      request = asks;
       status = pdu.status;
       body = body_octets pdu.body;
       octets_are = takes.spelled ∙ framed_same (command_code (command_in pdu.body)) pdu.status pdu.sequence sequence (body_octets pdu.body) same;

@@ -24,11 +24,15 @@ use Rattle.node_model.specs.Kept.{Held, Kept}
 use Rattle.node_model.specs.Outputs.{Stepped as NodeStep}
 use Rattle.node_model.specs.Requests.{is_cancel, ticket_of}
 use Rattle.pdu_bodies.specs.declared.pdu.Body.{Body}
-use Rattle.pdu_bodies.specs.declared.pdu.Body.TheVariants.{CancelSm, CancelSmResp}
+use Rattle.pdu_bodies.specs.declared.pdu.Body.TheVariants.{CancelSm, CancelSmResp, QuerySm, QuerySmResp}
 use Rattle.pdu_bodies.specs.declared.pdu.Cancel.{Cancel as CancelBody}
 use Rattle.pdu_bodies.specs.declared.pdu.Pdu.{Pdu}
+use Rattle.pdu_bodies.specs.declared.pdu.Query.{Query as QueryBody}
+use Rattle.pdu_bodies.specs.declared.pdu.QueryAnswer.{QueryAnswer}
+use Rattle.pdu_codec.specs.Bodies.{command_in}
 use Rattle.pdu_codec.specs.Pdu.{read_pdu}
 use Rattle.pdu_frames.specs.Frames.{cut}
+use Rattle.pdu_tables.specs.CommandCodes.{command_code}
 use Rattle.pdu_tables.specs.StatusCodes.{status_code}
 use Rattle.pdu_tables.specs.declared.status.Status.TheVariants as statuses
 use Rattle.receipts.specs.Texts.{Report}
@@ -53,18 +57,19 @@ use Rattle.script_text.specs.Runner.{Acted, Owned, Runner, answered_by, fails_by
 use Rattle.script_text.specs.Runner.{mail_of, makes_room, on_delivery, on_grant, on_tick, owner_of, posts, posts_for, posts_for_all, pushes, replied}
 use Rattle.script_text.specs.Runner.{replied_at, sent, sent_to, ticked, told, with_posted}
 use Rattle.world_fates.proofs.node.Posting.{left_in}
+use Rattle.world_fates.proofs.node.Telling.{refusal_tells_none}
 use Rattle.world_fates.proofs.Entries.{AreApart, Has, found_entry, map_apart, set_apart, set_in}
 use Rattle.world_fates.proofs.Asking.{AsksOn, replies_tell}
 use Rattle.world_fates.proofs.Fresh.{reply_sequence}
 use Rattle.octet_laws.proofs.AtOnce.{IsNoDeletion}
-use Rattle.octet_laws.proofs.Holding.{IsAmong, StepSo, stepped_so}
+use Rattle.octet_laws.proofs.Holding.{IsQuery, IsAmong, StepSo, stepped_so}
 
 -- ---- what is said of a session
 
--- a cancel_sm that waits at the node names its message
+-- a query_sm or a cancel_sm that waits at the node names its message
 abbrev pub Names : Body → Request → Type 0
 Names body (Submit id message) = Unit {0}
-Names body (Query id account source) = Unit {0}
+Names body (Query id account source) = (query : QueryBody) × (body ≡ QuerySm query) × (decimal id ≡ query.message_id)
 Names body (Cancel id account source destination) = (cancel : CancelBody) × (body ≡ CancelSm cancel) × (decimal id ≡ cancel.message_id)
 
 -- the request came in a frame of the stream
@@ -75,6 +80,7 @@ pub record IsTied (stream : List ℕ) (kept : Kept) (request : OpenRequest) : Ty
   pub pdu : Pdu
   pub reads : read_pdu frame ≡ Ok pdu
   pub sequence_is : pdu.sequence ≡ request.sequence
+  pub asks : command_code (command_in pdu.body) < 0x80000000
   pub names : (h : Held) → In h kept.held → ticket_of h ≡ request.ticket → Names pdu.body h.waiting.request
 
 pub record IsSoundSession (stream : List ℕ) (kept : Kept) (session : Session) : Type 0 where
@@ -140,6 +146,7 @@ tied_on stream before after request on tied = record {
   pdu = tied.pdu;
   reads = tied.reads;
   sequence_is = tied.sequence_is;
+  asks = tied.asks;
   names = λ h among same. elim (on.held h among) [
     | inl old ↦ subst (Names tied.pdu.body) (sym old.request) (tied.names old.from old.among (sym old.ticket ∙ same))
     | inr new ↦ absurd (let least = new.0 in let below = tied.below in omega (arith, same, least, below))
@@ -319,11 +326,23 @@ pub record IsAnswer (stream : List ℕ) (sequence id : ℕ) : Type 0 where
   pub body : pdu.body ≡ CancelSm cancel
   pub names : decimal id ≡ cancel.message_id
 
--- if it is a cancel_sm_resp with ESME_ROK on the session, it is so
+-- the query_sm of this sequence_number came in the stream, and has the message_id
+pub record IsTold (stream : List ℕ) (sequence : ℕ) (message_id : List ℕ) : Type 0 where
+  pub frame : List ℕ
+  pub among : In frame (cut stream).frames
+  pub pdu : Pdu
+  pub reads : read_pdu frame ≡ Ok pdu
+  pub sequence_is : pdu.sequence ≡ sequence
+  pub query : QueryBody
+  pub body : pdu.body ≡ QuerySm query
+  pub names : query.message_id ≡ message_id
+
+-- if it is a cancel_sm_resp with ESME_ROK on the session, or a query_sm_resp with an answer, it is so
 abbrev pub IsRight : ℕ → List ℕ → Print → Type 0
 IsRight number stream (AtOnce session pdu) = IsNoDeletion pdu
 IsRight number stream (Late session id pdu) =
-    session ≡ number → pdu.body ≡ CancelSmResp → pdu.status % 2 ^ 32 ≡ 0 → IsAnswer stream pdu.sequence id × (pdu.status ≡ status_code statuses.Ok)
+    (session ≡ number → pdu.body ≡ CancelSmResp → pdu.status % 2 ^ 32 ≡ 0 → IsAnswer stream pdu.sequence id × (pdu.status ≡ status_code statuses.Ok))
+    × (session ≡ number → (answer : QueryAnswer) → pdu.body ≡ QuerySmResp (Some answer) → IsTold stream pdu.sequence answer.message_id)
 IsRight number stream (Delivers session pdu) = IsNoDeletion pdu
 IsRight number stream (Reports session sequence optional report) = Unit {0}
 IsRight number stream (Gone session) = Unit {0}
@@ -461,6 +480,26 @@ removes requested sequence id (NotMatched chain) body status = absurd (omega (ar
 removes requested sequence id Unknown body status = absurd (omega (arith, status))
 removes requested sequence id TooLate body status = absurd (omega (arith, status))
 
+shows : (requested : Requested) (sequence id : ℕ) (answer : Answer) (told : QueryAnswer) →
+    (reply_pdu requested sequence id answer).body ≡ QuerySmResp (Some told) → (chain : List Decree) × (answer ≡ Shown chain) × (decimal id ≡ told.message_id)
+shows requested sequence id (Shown chain) told body = (chain, refl, same _ body)
+  where
+    same : (one : QueryAnswer) → QuerySmResp (Some one) ≡ QuerySmResp (Some told) → one.message_id ≡ told.message_id
+    same one is = cc
+shows requested sequence id Accepted told body = absurd cc
+shows requested sequence id (Removed chain) told body = absurd cc
+shows requested sequence id NotOwner told body = absurd (refusal_tells_none requested told body)
+shows requested sequence id (StillThere chain) told body = absurd (refusal_tells_none requested told body)
+shows requested sequence id (NotMatched chain) told body = absurd (refusal_tells_none requested told body)
+shows requested sequence id Unknown told body = absurd (refusal_tells_none requested told body)
+shows requested sequence id TooLate told body = absurd (refusal_tells_none requested told body)
+
+asked : (body : Body) (request : Request) → IsQuery request → Names body request →
+    (query : QueryBody) × (body ≡ QuerySm query) × (decimal (id_in request) ≡ query.message_id)
+asked body (Submit id message) is names = absurd is
+asked body (Query id account source) is names = names
+asked body (Cancel id account source destination) is names = absurd is
+
 named : (body : Body) (request : Request) → is_cancel request ≡ true → Names body request →
     (cancel : CancelBody) × (body ≡ CancelSm cancel) × (decimal (id_in request) ≡ cancel.message_id)
 named body (Submit id message) is names = absurd cc
@@ -481,8 +520,10 @@ answered_keep number stream runner node input sound held plain = record {
       let it = (replies_tell runner.sessions step.outputs.replies).prints print among in
       record {
         ungone = λ is. never it.number it.reply.id _ (sym it.print_is ∙ is);
-        right = subst (IsRight number stream) (sym it.print_is) (λ same.
-            answers it.request it.reply (subst (λ (n : ℕ). AsksOn runner.sessions n it.request) same it.asks) it.among it.ticket_is);
+        right = subst (IsRight number stream) (sym it.print_is) (
+          (λ same. answers it.request it.reply (subst (λ (n : ℕ). AsksOn runner.sessions n it.request) same it.asks) it.among it.ticket_is),
+          (λ same. tells it.request it.reply (subst (λ (n : ℕ). AsksOn runner.sessions n it.request) same it.asks) it.among it.ticket_is),
+        );
       };
 }
   where
@@ -494,6 +535,27 @@ answered_keep number stream runner node input sound held plain = record {
 
     never : (other id : ℕ) (pdu : Pdu) → Late other id pdu ≡ Gone number → ⊥
     never other id pdu is = cc
+
+    tells : (request : OpenRequest) (reply : Reply) → AsksOn runner.sessions number request → In reply step.outputs.replies →
+        request.ticket ≡ reply.ticket → (told : QueryAnswer) →
+        (reply_pdu request.requested request.sequence reply.id reply.answer).body ≡ QuerySmResp (Some told) →
+        IsTold stream (reply_pdu request.requested request.sequence reply.id reply.answer).sequence told.message_id
+    tells request reply asks among ticket told body =
+        let shown = shows request.requested request.sequence reply.id reply.answer told body in
+        let waited = so.replies reply among in
+        let tied = (sound.each asks.session asks.there).tied request asks.among in
+        let query = waited.shown shown.0 shown.1 in
+        let names = asked tied.pdu.body waited.from.waiting.request query (tied.names waited.from waited.among (waited.ticket ∙ sym ticket)) in
+        record {
+          frame = tied.frame;
+          among = tied.among;
+          pdu = tied.pdu;
+          reads = tied.reads;
+          sequence_is = tied.sequence_is ∙ reply_sequence request.requested request.sequence reply.id reply.answer;
+          query = names.0;
+          body = names.1;
+          names = sym names.2 ∙ ap decimal waited.id ∙ shown.2;
+        }
 
     answers : (request : OpenRequest) (reply : Reply) → AsksOn runner.sessions number request → In reply step.outputs.replies →
         request.ticket ≡ reply.ticket → (reply_pdu request.requested request.sequence reply.id reply.answer).body ≡ CancelSmResp →

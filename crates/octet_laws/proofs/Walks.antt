@@ -38,7 +38,7 @@ use Rattle.world_fates.proofs.Entries.{AreApart, Has}
 use Rattle.world_fates.proofs.Lines.{one_node, printed_at}
 use Rattle.world_fates.proofs.Places.{row_least, set_cases}
 use Rattle.world_fates.proofs.Worlds.{due_least}
-use Rattle.octet_laws.specs.Cancels.{brought, gone_line, heard_then}
+use Rattle.octet_laws.specs.Sessions.{brought, gone_line, heard_then}
 use Rattle.octet_laws.proofs.Holding.{stepped_so}
 use Rattle.octet_laws.proofs.Lines.{IsRefusal, gone_told, gone_written, refused_told}
 use Rattle.octet_laws.proofs.Octets.{Ends, Lasts, octets_other, octets_own}

@@ -16,7 +16,8 @@ use Rattle.script_text.specs.Prints.{WorldPrint, world_line, world_text}
 use Rattle.script_text.specs.Script.{Joins, Stage, Stepped, after, prints_from, step_by, step_of}
 use Rattle.script_text.specs.World.{NodeInput, opened, setup_of}
 use Rattle.world_fates.proofs.Answering.{joins_more}
-use Rattle.octet_laws.specs.Cancels.{LinesWriteOn, heard_behind, heard_on, heard_then, written_by, written_then}
+use Rattle.octet_laws.specs.Laws.{LinesWriteOn}
+use Rattle.octet_laws.specs.Sessions.{heard_behind, heard_on, heard_then, written_by, written_then}
 use Rattle.octet_laws.proofs.Ties.{Hears}
 use Rattle.octet_laws.proofs.Walks.{IsShort, WorldHears, line_so}
 

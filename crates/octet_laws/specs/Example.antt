@@ -7,7 +7,7 @@ use Rattle.pdu_bodies.specs.declared.pdu.QueryAnswer.{QueryAnswer}
 use Rattle.script_lines.specs.Lines.{lines_of}
 use Rattle.script_text.specs.Script.{text_of}
 use Rattle.world_fates.specs.Example.{cancelled_and_asked, its_message}
-use Rattle.octet_laws.specs.Cancels.{IsCancelAnswer, Writes, heard_on}
+use Rattle.octet_laws.specs.Sessions.{IsCancelAnswer, Writes, heard_on}
 use Rattle.octet_laws.specs.Tellings.{IsPdu, TellsFate, esme_rok, query_sm_resp}
 
 -- the delivery receipt of the message that was cancelled, at the node 1

@@ -1,4 +1,4 @@
 pub mod Tellings
+pub mod Sessions
 pub mod Laws
 pub mod Example
-pub mod Cancels

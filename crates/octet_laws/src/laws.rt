@@ -1,8 +1,13 @@
-//! The law of what the octets that a script writes tell of fates: nothing to call, but to cite.
+//! The laws of what the octets that a script writes tell of fates: nothing to call, but to cite.
 
-ghost use Rattle.octet_laws.specs.Cancels.{ACancelledMessageStaysDeleted, LinesWriteOn};
 ghost use Rattle.octet_laws.specs.Example.{ACancelIsAnswered, TwoLinesTellOneFate};
-ghost use Rattle.octet_laws.specs.Laws.{OneFateIsWritten, WhatIsReadIsSpelled};
+ghost use Rattle.octet_laws.specs.Laws.{
+  ACancelledMessageStaysDeleted,
+  EachAnswerIsToAQuery,
+  LinesWriteOn,
+  OneFateIsWritten,
+  WhatIsReadIsSpelled,
+};
 
 /// Of the lines that a script writes all that tell a final state of one message, in a query_sm_resp with ESME_ROK (SMPP 3.4, 4.8.2 and 5.2.28) or in a
 /// delivery receipt (SMPP 3.4, 5.2.12 and appendix B), tell the same.
@@ -22,7 +27,13 @@ pub fn a_cancelled_message_stays_deleted()
     ensures { ACancelledMessageStaysDeleted }
 {}
 
-/// What it calls written is the text of the script: that of the first lines is the beginning of that of all.
+/// And each query_sm_resp with ESME_ROK that a script writes (SMPP 3.4, 4.8.2) answers a query_sm (SMPP 3.4, 4.8.1) for its message that came on its
+/// session, with its sequence_number.
+pub fn each_answer_is_to_a_query()
+    ensures { EachAnswerIsToAQuery }
+{}
+
+/// What these call written is the text of the script: that of the first lines is the beginning of that of all.
 pub fn lines_write_on()
     ensures { LinesWriteOn }
 {}

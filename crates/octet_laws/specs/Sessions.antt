@@ -1,13 +1,14 @@
--- What came on a session, and a cancel_sm that is answered there, by the lines of a script and what they write.
-use Rattle.std.specs.Prelude.{◌≡◌, ℕ, ◌==◌, ◌&&◌, not, List, [], ◌∷◌, ◌++◌, codes, drop, length, Option, Some, None, if◌then◌else◌}
+-- What came on a session and what is answered there, by the lines of a script and what they write.
+use Rattle.std.specs.Prelude.{◌≡◌, ℕ, ◌<◌, ◌==◌, ◌&&◌, not, List, [], ◌∷◌, ◌++◌, codes, drop, length, Option, Some, None, if◌then◌else◌}
 use Rattle.std.specs.Fmt.{decimal}
 use Rattle.std.specs.List.{list_any}
 use Rattle.std.specs.Str.{bytes_eq}
 use Rattle.mc_model.specs.message.Ids.{IsNode}
 use Rattle.mc_model.specs.synod.Lists.{In}
-use Rattle.pdu_fields.specs.Grammar.{cancel_parts, query_answer_parts}
-use Rattle.pdu_bodies.specs.Contents.{cancel_contents, query_answer_contents}
+use Rattle.pdu_fields.specs.Grammar.{cancel_parts, query_answer_parts, query_parts}
+use Rattle.pdu_bodies.specs.Contents.{cancel_contents, query_answer_contents, query_contents}
 use Rattle.pdu_bodies.specs.declared.pdu.Cancel.{Cancel}
+use Rattle.pdu_bodies.specs.declared.pdu.Query.{Query}
 use Rattle.pdu_bodies.specs.declared.pdu.QueryAnswer.{QueryAnswer}
 use Rattle.pdu_codec.specs.Pdu.{framed}
 use Rattle.pdu_frames.specs.Frames.{cut}
@@ -15,7 +16,7 @@ use Rattle.script_lines.specs.Lines.{lines_of}
 use Rattle.script_lines.specs.Said.{Grant, IsSession, Octets, Said, said_of}
 use Rattle.script_text.specs.Settings.{script_settings}
 use Rattle.script_text.specs.Prints.{world_text}
-use Rattle.script_text.specs.Script.{prints_from, text_of}
+use Rattle.script_text.specs.Script.{prints_from}
 use Rattle.octet_laws.specs.Tellings.{IsPdu, IsPduLine, esme_rok, query_sm_resp}
 
 -- ---- what lines write
@@ -23,11 +24,6 @@ use Rattle.octet_laws.specs.Tellings.{IsPdu, IsPduLine, esme_rok, query_sm_resp}
 -- the text of a script of these lines: `text_of script` is `written_by (lines_of script)`
 abbrev pub written_by : List (List ℕ) → List ℕ
 written_by lines = world_text (prints_from script_settings None lines)
-
--- That is so, and what the first lines of a script write is the beginning of what it writes.
-pub record LinesWriteOn : Type 0 where
-  pub whole : (script : List ℕ) → text_of script ≡ written_by (lines_of script)
-  pub begins : (before later : List (List ℕ)) → (more : List ℕ) × (written_by (before ++ later) ≡ written_by before ++ more)
 
 -- the lines that one more line writes
 abbrev pub written_then : List (List ℕ) → List ℕ → List (List ℕ)
@@ -60,9 +56,12 @@ heard_behind node session before stream (line ∷ lines) =
 abbrev pub heard_on : ℕ → ℕ → List (List ℕ) → List ℕ
 heard_on node session lines = heard_behind node session [] [] lines
 
--- ---- a cancel_sm and its answer
+-- ---- requests and their answers
 
--- the command_ids of a cancel_sm and a cancel_sm_resp (SMPP 3.4, 5.1.2.1)
+-- the command_ids of a query_sm, a cancel_sm and a cancel_sm_resp (SMPP 3.4, 5.1.2.1)
+abbrev pub query_sm : ℕ
+query_sm = 0x00000003
+
 abbrev pub cancel_sm : ℕ
 cancel_sm = 0x00000008
 
@@ -78,6 +77,16 @@ pub record CancelCame (stream : List ℕ) (sequence : ℕ) (message_id : List �
   pub pdu : IsPdu frame cancel_sm status cancel_parts (cancel_contents cancel)
   pub sequence_is : pdu.sequence ≡ sequence
   pub message : cancel.message_id ≡ message_id
+
+-- And so did a query_sm (SMPP 3.4, 4.8.1).
+pub record QueryCame (stream : List ℕ) (sequence : ℕ) (message_id : List ℕ) : Type 0 where
+  pub frame : List ℕ
+  pub among : In frame (cut stream).frames
+  pub status : ℕ
+  pub query : Query
+  pub pdu : IsPdu frame query_sm status query_parts (query_contents query)
+  pub sequence_is : pdu.sequence ≡ sequence
+  pub message : query.message_id ≡ message_id
 
 -- Behind these lines a line writes octets on a session of a node.
 pub record Writes (before : List (List ℕ)) (line : List ℕ) (node session : ℕ) (octets : List ℕ) : Type 0 where
@@ -105,37 +114,21 @@ IsGrantedNoMore lines message_id =
     → IsPduLine written octets
     → ⊥
 
--- octets are a PDU with this sequence_number (SMPP 3.4, 5.1.4)
-pub record HasSequence (octets : List ℕ) (sequence : ℕ) : Type 0 where
+-- octets are a request with this sequence_number (SMPP 3.4, 5.1.4): the command_id of a response has bit 31 (5.1.2)
+pub record IsRequest (octets : List ℕ) (sequence : ℕ) : Type 0 where
   pub command : ℕ
+  pub request : command < 0x80000000
   pub status : ℕ
   pub body : List ℕ
   pub octets_are : octets ≡ framed command status sequence body
 
 -- A later query_sm_resp with ESME_ROK for the message (SMPP 3.4, 4.8.2) tells DELETED (5.2.28), if its query_sm came later: at some time after these
--- lines nothing with its sequence_number had come on its session since that began.
+-- lines no request with its sequence_number had come on its session since that began.
 abbrev pub IsToldDeleted : List (List ℕ) → List ℕ → Type 0
 IsToldDeleted lines message_id =
     (meanwhile later : List (List ℕ)) (line : List ℕ) (node session : ℕ) (octets : List ℕ) (answer : QueryAnswer)
     → Writes ((lines ++ meanwhile) ++ later) line node session octets
     → (pdu : IsPdu octets query_sm_resp esme_rok query_answer_parts (query_answer_contents answer))
     → answer.message_id ≡ message_id
-    → ((frame : List ℕ) → In frame (cut (heard_on node session (lines ++ meanwhile))).frames → HasSequence frame pdu.sequence → ⊥)
+    → ((frame : List ℕ) → In frame (cut (heard_on node session (lines ++ meanwhile))).frames → IsRequest frame pdu.sequence → ⊥)
     → answer.message_state ≡ 4
-
--- ---- the law
-
--- The answer is to a cancel_sm that came on its session, and the message of that one is granted no more, and told DELETED.
-pub record IsDeletedBy (before : List (List ℕ)) (line : List ℕ) (node session sequence : ℕ) : Type 0 where
-  pub message_id : List ℕ
-  pub came : CancelCame (heard_on node session before) sequence message_id
-  pub granted : IsGrantedNoMore (before ++ line ∷ []) message_id
-  pub told : IsToldDeleted (before ++ line ∷ []) message_id
-
--- Each cancel_sm_resp with ESME_ROK that a script writes deletes the message of a cancel_sm with its sequence_number that came on its session.
-abbrev pub ACancelledMessageStaysDeleted : Type 0
-ACancelledMessageStaysDeleted =
-    (before : List (List ℕ)) (line : List ℕ) (node session sequence : ℕ) (octets : List ℕ)
-    → Writes before line node session octets
-    → IsCancelAnswer octets sequence
-    → IsDeletedBy before line node session sequence
