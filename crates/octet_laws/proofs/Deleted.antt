@@ -85,7 +85,7 @@ joins_front : (first : Stage) (before lines : List (List ℕ)) (all : List NodeI
 unfolding Joins
 joins_front first [] lines all whole last more = record { came = []; prints = []; middle = first; joins = (refl, refl, refl) }
 joins_front first (line ∷ before) lines all whole last more =
-    let rest = joins_front more.0.stage before lines more.1 more.2 last more.6 in
+    let rest = joins_front more.0.next before lines more.1 more.2 last more.6 in
     record {
       came = more.0.inputs ++ rest.came;
       prints = more.0.prints ++ rest.prints;
@@ -160,7 +160,7 @@ module _ (before : List (List ℕ)) (line : List ℕ) (node session sequence : �
   abbrev pub lines : List (List ℕ)
   lines = before ++ line ∷ []
 
-  pub joins_now : Joins script_settings None lines (it.came ++ it.done.inputs) (it.prints ++ it.done.prints) it.done.stage
+  pub joins_now : Joins script_settings None lines (it.came ++ it.done.inputs) (it.prints ++ it.done.prints) it.done.next
   joins_now = joins_more script_settings None (Some it.world) before it.came it.prints line it.done it.joins it.does
 
   pub printed_now : In (At node (Late session it.id it.pdu)) (it.prints ++ it.done.prints)
@@ -178,9 +178,9 @@ module _ (before : List (List ℕ)) (line : List ℕ) (node session sequence : �
       let so = written_so (lines ++ later) asking written among in
       let of_line = brought_by so.done.prints written octets (subst (In written) so.written_is among) is_pdu in
       let brings = of_line.brings in
-      let behind = joins_behind None lines _ _ it.done.stage joins_now later so.joined.came so.joined.prints so.joined.last so.joined.joins in
+      let behind = joins_behind None lines _ _ it.done.next joins_now later so.joined.came so.joined.prints so.joined.last so.joined.joins in
       let within = asks_within so.joined.last asking (Grant there id) so.done says so.does in
-      let nothing = attempts_refused script_settings lines later _ behind.coming _ behind.others it.done.stage so.joined.last asking so.done node there id
+      let nothing = attempts_refused script_settings lines later _ behind.coming _ behind.others it.done.next so.joined.last asking so.done node there id
       (Late session it.id it.pdu) 4 joins_now behind.joins printed_now
       (subst (λ (m : List ℕ). StatesFate (Late session it.id it.pdu) m 4) (sym named) states_now) within so.does in
       at_stage so.joined.last so.done within so.does nothing.inputs brings.node brings.printed brings.pdu
@@ -227,7 +227,7 @@ module _ (before : List (List ℕ)) (line : List ℕ) (node session sequence : �
   told_deleted meanwhile later asking there at octets answer w spelled message none =
       let so = written_so ((lines ++ meanwhile) ++ later) asking w.written w.among in
       let front = joins_front None (lines ++ meanwhile) later so.joined.came so.joined.prints so.joined.last so.joined.joins in
-      let since = joins_behind None lines _ _ it.done.stage joins_now meanwhile front.came front.prints front.middle front.joins in
+      let since = joins_behind None lines _ _ it.done.next joins_now meanwhile front.came front.prints front.middle front.joins in
       by_middle so front.came front.prints front.middle front.joins
       (subst (In (At node print_now)) (sym since.whole_is) (in_left (At node print_now) (it.prints ++ it.done.prints) since.others printed_now))
     where
@@ -244,7 +244,7 @@ module _ (before : List (List ℕ)) (line : List ℕ) (node session sequence : �
           let here = subst (λ (p : WorldPrint). In p so.done.prints) brings.print_is of_line.among in
           let whole = joins_more script_settings None so.joined.last ((lines ++ meanwhile) ++ later) so.joined.came so.joined.prints asking so.done
           so.joined.joins so.does in
-          let tells = lines_tell (((lines ++ meanwhile) ++ later) ++ asking ∷ []) _ _ so.done.stage whole brings.node print brings.pdu octets it.message_id
+          let tells = lines_tell (((lines ++ meanwhile) ++ later) ++ asking ∷ []) _ _ so.done.next whole brings.node print brings.pdu octets it.message_id
           answer.message_state (in_right (At brings.node print) so.joined.prints so.done.prints here) brings.pdu_is brings.octets_are answer spelled message
           refl in
           let behind = joins_behind None (lines ++ meanwhile) came prints (Some world) joins later so.joined.came so.joined.prints so.joined.last
@@ -253,7 +253,7 @@ module _ (before : List (List ℕ)) (line : List ℕ) (node session sequence : �
           let nodes = brings.node_text ∙ ap decimal w.node_is in
           let least = least_node there brings.node w.is_node nodes in
           let header = header_read brings.pdu octets brings.octets_are _ _ spelled.sequence _ spelled.octets_are in
-          elim (later_queries script_settings (lines ++ meanwhile) (later ++ asking ∷ []) came _ prints _ world so.done.stage node brings.node print_now print
+          elim (later_queries script_settings (lines ++ meanwhile) (later ++ asking ∷ []) came _ prints _ world so.done.next node brings.node print_now print
           it.message_id 4 answer.message_state joins more least printed (in_right (At brings.node print) behind.others so.done.prints here) states_now tells) [
             | inl same ↦ same
             | inr waited ↦

@@ -22,7 +22,7 @@ use Rattle.sessions.specs.Steps.{on_wrong_length}
 use Rattle.script_text.specs.Left.{followed_by}
 use Rattle.script_text.specs.Settings.{Settings}
 use Rattle.script_text.specs.Attempts.{submission_at}
-use Rattle.script_text.specs.Node.{Node, awaiting, step_at, tick_at}
+use Rattle.script_text.specs.Node.{Node, step_at, tick_at}
 use Rattle.script_text.specs.Prints.{AtOnce, Declined, Delivers, Gone, Late, Print, Reports, Ungranted}
 use Rattle.script_text.specs.Pushes.{accounts_up, session_at, target_in}
 use Rattle.script_text.specs.Runner.{Acted, Runner, Served, answered_by, ends, gives_up, granted, granted_unless, held_in, holds}
@@ -73,9 +73,9 @@ both_ungone one other first last session among = elim (in_either (Gone session) 
   | inr there ↦ last session there
 ]
 
-pub delivery_ungone : (runner : Runner) (packet : Packet) (others : List Packet) → IsUngone (on_delivery runner packet others).prints
-delivery_ungone runner packet others =
-    let node = awaiting runner.node others in
+pub delivery_ungone : (runner : Runner) (packet : Packet) → IsUngone (on_delivery runner packet).prints
+delivery_ungone runner packet =
+    let node = runner.node in
     let step = step_at node (Comes packet) in
     let one = answered_by runner node (Comes packet) step in
     both_ungone one.prints _ (told_ungone runner.sessions step.outputs.replies)

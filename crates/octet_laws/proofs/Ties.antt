@@ -47,7 +47,7 @@ use Rattle.sessions.specs.declared.request.OpenRequest.{OpenRequest}
 use Rattle.sessions.specs.declared.requested.Requested.{Requested}
 use Rattle.script_text.specs.Left.{followed_by, rests}
 use Rattle.script_text.specs.Attempts.{Went, all_given_up, concluded, delivered_so, given_up, submission_at, unanswered, went}
-use Rattle.script_text.specs.Node.{Node, awaiting, step_at, tick_at}
+use Rattle.script_text.specs.Node.{Node, step_at, tick_at}
 use Rattle.script_text.specs.Prints.{AtOnce, Declined, Delivers, Gone, Late, Print, Reports, Ungranted}
 use Rattle.script_text.specs.Pushes.{accounts_up, delivery_on, overdue_in, pushed_on, session_at, target_in, timely_in, with_push}
 use Rattle.script_text.specs.Receipts.{Mail, Posted, all_posted, goes_out, goes_out_up_to, is_for, posted, posted_for, posted_for_all}
@@ -272,12 +272,12 @@ replied_lessens number connected ticket (Some owned) = by_found (lookup (is_at (
         set_lessens number owned.number connected session (on_reply session ticket) is refl
         (left_in (λ (other : OpenRequest). other.ticket == ticket) session.requests)
 
-told_lessens : (number : ℕ) (connected : List (ℕ × Session)) (replies : List Reply) → Lessens number connected (told connected replies).sessions
+told_lessens : (number : ℕ) (connected : List (ℕ × Session)) (replies : List Reply) → Lessens number connected (told connected replies).next
 unfolding told
 told_lessens number connected [] = same_lessens number connected
 told_lessens number connected (reply ∷ replies) =
     let next = replied connected reply.ticket (owner_of connected reply.ticket) in
-    less_then number connected next (told next replies).sessions (replied_lessens number connected reply.ticket (owner_of connected reply.ticket))
+    less_then number connected next (told next replies).next (replied_lessens number connected reply.ticket (owner_of connected reply.ticket))
     (told_lessens number next replies)
 
 moment_lessens : (number : ℕ) (connected : List (ℕ × Session)) (now : ℕ) → Lessens number connected (timely_in connected now)
@@ -512,7 +512,7 @@ answered_keep : (number : ℕ) (stream : List ℕ) (runner : Runner) (node : Nod
     Keeps number stream (answered_by runner node input (step_at node input))
 answered_keep number stream runner node input sound held plain = record {
   hears = record {
-    sound = sound_on number stream node.kept step.kept (told runner.sessions step.outputs.replies).sessions (step_on input node.kept step so)
+    sound = sound_on number stream node.kept step.kept (told runner.sessions step.outputs.replies).next (step_on input node.kept step so)
         (sound_less number stream node.kept runner.sessions _ (told_lessens number runner.sessions step.outputs.replies) sound);
     held = held;
   };
@@ -581,10 +581,9 @@ answered_keep number stream runner node input sound held plain = record {
           ap (λ (a : Answer). (reply_pdu request.requested request.sequence reply.id a).status) removed.1,
         )
 
-pub delivery_keep : (number : ℕ) (stream : List ℕ) (runner : Runner) (packet : Packet) (others : List Packet) → Hears number stream runner →
-    Keeps number stream (on_delivery runner packet others)
-delivery_keep number stream runner packet others hears =
-    let node = awaiting runner.node others in
+pub delivery_keep : (number : ℕ) (stream : List ℕ) (runner : Runner) (packet : Packet) → Hears number stream runner → Keeps number stream (on_delivery runner packet)
+delivery_keep number stream runner packet hears =
+    let node = runner.node in
     let step = step_at node (Comes packet) in
     let one = answered_by runner node (Comes packet) step in
     let here = answered_keep number stream runner node (Comes packet) hears.sound hears.held (λ lost is. cc) in
@@ -593,24 +592,24 @@ delivery_keep number stream runner packet others hears =
 
 -- ---- a moment
 
-pub concluded_on : (node : Node) (slot : Slot) (outcome : Outcome) → GoesOn node.kept (concluded node slot outcome).node.kept
+pub concluded_on : (node : Node) (slot : Slot) (outcome : Outcome) → GoesOn node.kept (concluded node slot outcome).next.kept
 concluded_on node slot outcome = by_test (is_open node.kept slot)
   where
-    by_test : (test : Bool) → GoesOn node.kept (cond {A = Went} test (went node (Response slot outcome)) (rests node)).node.kept
+    by_test : (test : Bool) → GoesOn node.kept (cond {A = Went} test (went node (Response slot outcome)) (rests node)).next.kept
     by_test true = step_on (Response slot outcome) node.kept _ (stepped_so node.setup node.kept (Response slot outcome) (λ lost is. cc))
     by_test false = on_same node.kept
 
-pub delivered_on : (node : Node) (delivery : Delivery) (outcome : Option Outcome) → GoesOn node.kept (delivered_so node delivery outcome).node.kept
+pub delivered_on : (node : Node) (delivery : Delivery) (outcome : Option Outcome) → GoesOn node.kept (delivered_so node delivery outcome).next.kept
 delivered_on node (deliveries.Attempt slot) (Some outcome) = concluded_on node slot outcome
 delivered_on node (deliveries.Attempt slot) None = on_same node.kept
 delivered_on node (deliveries.Receipt id) outcome = on_same node.kept
 
-pub all_on : (node : Node) (pushed : List Pushed) → GoesOn node.kept (all_given_up node pushed).node.kept
+pub all_on : (node : Node) (pushed : List Pushed) → GoesOn node.kept (all_given_up node pushed).next.kept
 unfolding all_given_up
 all_on node [] = on_same node.kept
 all_on node (first ∷ others) =
     let one = given_up node first in
-    on_both node.kept one.node.kept (all_given_up one.node others).node.kept (delivered_on node first.delivery (Some unanswered)) (all_on one.node others)
+    on_both node.kept one.next.kept (all_given_up one.next others).next.kept (delivered_on node first.delivery (Some unanswered)) (all_on one.next others)
 
 pub tick_keep : (number : ℕ) (stream : List ℕ) (runner : Runner) (moment : ℕ) → Hears number stream runner → Keeps number stream (on_tick runner moment)
 tick_keep number stream runner moment hears =

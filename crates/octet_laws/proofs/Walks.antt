@@ -151,7 +151,7 @@ module _ (m number : ℕ) (least_m : 1 ≤ m) where
         by_packet (Some one) =
             if_up_so world heard node least (λ runner. shared (marked world packet node) node (on_delivery runner one))
             (λ runner is. shared_so (marked world packet node) heard node least (on_delivery runner one)
-            (λ same. delivery_keep number stream runner one [] (the_runner world heard node least runner is same)) (delivery_ungone runner one []))
+            (λ same. delivery_keep number stream runner one (the_runner world heard node least runner is same)) (delivery_ungone runner one))
 
     comes_again_so : (world : World) → WorldHears stream world → (packet node : ℕ) → 1 ≤ node → MovesSo (comes_again world packet node)
     comes_again_so world heard packet node least = by_test (is_up_at (runner_at world node))

@@ -9,12 +9,12 @@ use Rattle.pdu_frames.specs.Frames.{cut_within}
 use Rattle.script_lines.specs.Lines.{lines_of}
 use Rattle.script_lines.specs.Said.{Said, Skipped, Nodes, Octets, Deliver, Crash, Tick, Grant, Settle, Restart, Replay, names_within, said_of, said_within}
 use Rattle.script_lines.specs.Said.{◌>>=◌}
-use Rattle.script_text.specs.Node.{opened_by}
 use Rattle.script_text.specs.Runner.{Runner, runner_opened}
 use Rattle.script_text.specs.Settings.{Settings, script_settings}
 use Rattle.script_text.specs.Prints.{WorldPrint, world_line, world_text}
 use Rattle.script_text.specs.Script.{Joins, Stage, Stepped, after, prints_from, step_by, step_of}
-use Rattle.script_text.specs.World.{NodeInput, opened, setup_of}
+use Rattle.script_text.specs.World.{NodeInput, opened}
+use Rattle.script_text.proofs.Opening.{opened_there}
 use Rattle.world_fates.proofs.Answering.{joins_more}
 use Rattle.octet_laws.specs.Laws.{LinesWriteOn}
 use Rattle.octet_laws.specs.Sessions.{heard_behind, heard_on, heard_then, written_by, written_then}
@@ -174,13 +174,7 @@ module _ (m number : ℕ) (least_m : 1 ≤ m) where
   opened_hears : (settings : Settings) (count serial : ℕ) → WorldHears m number least_m [] (opened settings count serial)
   unfolding cut_within
   opened_hears settings count serial runner is =
-      by_number (slice_get (range_with_len 1 count) (pred m)) (sym (slice_get-map new (range_with_len 1 count) (pred m)) ∙ is)
-    where
-      new : ℕ → Runner
-      new node = runner_opened (opened_by (setup_of settings count serial node))
-
-      begins : (node : ℕ) → Hears number [] (new node)
-      begins node = record {
+      subst (Hears number []) (opened_there settings count serial (pred m) runner is) (record {
         sound = record {
           given = λ h among. absurd among;
           there = inl refl;
@@ -188,14 +182,7 @@ module _ (m number : ℕ) (least_m : 1 ≤ m) where
           apart = tt;
         };
         held = record { rest = refl; apart = tt };
-      }
-
-      same : (node : ℕ) → Some (new node) ≡ Some runner → new node ≡ runner
-      same node is = cc
-
-      by_number : (found : Option ℕ) → option_map new found ≡ Some runner → Hears number [] runner
-      by_number None is = absurd cc
-      by_number (Some node) is = subst (Hears number []) (same node is) (begins node)
+      })
 
   said_one : (most : ℕ) (line : List ℕ) (said : Said) → said_within most line ≡ Some said → said_of line ≡ Some said
   said_one most line said is = by_said (said_of line) is

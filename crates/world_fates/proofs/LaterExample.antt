@@ -30,12 +30,11 @@ use Rattle.pdu_frames.specs.Frames.{cut}
 use Rattle.script_lines.specs.Said.{Octets, Said, said_within}
 use Rattle.sessions.specs.Session.{Session}
 use Rattle.sessions.specs.declared.request.OpenRequest.{OpenRequest}
-use Rattle.script_text.specs.Node.{alone, opened_by}
 use Rattle.script_text.specs.Runner.{Runner, held_in, runner_opened}
 use Rattle.script_text.specs.Settings.{Settings, script_settings}
 use Rattle.script_text.specs.Prints.{WorldPrint}
 use Rattle.script_text.specs.Script.{Joins, Stage, Stepped}
-use Rattle.script_text.specs.World.{NodeInput, World, opened, runner_at}
+use Rattle.script_text.specs.World.{NodeInput, World, node_opened, opened, runner_at}
 use Rattle.world_fates.specs.Example.{ALaterQueryIsTold, its_message, then_it_asks, until_it_asks}
 use Rattle.world_fates.proofs.Coming.{the_world}
 use Rattle.world_fates.specs.Requests.{EndsIn, IsQueryOf, IsUsedFor}
@@ -54,20 +53,20 @@ after_line settings stage line = unwrap_or (step_of settings stage line) (record
 
 stage_after : Settings → Stage → List (List ℕ) → Stage
 stage_after settings stage [] = stage
-stage_after settings stage (line ∷ lines) = stage_after settings (after_line settings stage line).stage lines
+stage_after settings stage (line ∷ lines) = stage_after settings (after_line settings stage line).next lines
 
 inputs_after : Settings → Stage → List (List ℕ) → List NodeInput
 inputs_after settings stage [] = []
-inputs_after settings stage (line ∷ lines) = (after_line settings stage line).inputs ++ inputs_after settings (after_line settings stage line).stage lines
+inputs_after settings stage (line ∷ lines) = (after_line settings stage line).inputs ++ inputs_after settings (after_line settings stage line).next lines
 
 prints_after : Settings → Stage → List (List ℕ) → List WorldPrint
 prints_after settings stage [] = []
-prints_after settings stage (line ∷ lines) = (after_line settings stage line).prints ++ prints_after settings (after_line settings stage line).stage lines
+prints_after settings stage (line ∷ lines) = (after_line settings stage line).prints ++ prints_after settings (after_line settings stage line).next lines
 
 -- whether each of them says something that is done
 are_good : Settings → Stage → List (List ℕ) → Bool
 are_good settings stage [] = true
-are_good settings stage (line ∷ lines) = is_some (step_of settings stage line) && are_good settings (after_line settings stage line).stage lines
+are_good settings stage (line ∷ lines) = is_some (step_of settings stage line) && are_good settings (after_line settings stage line).next lines
 
 -- a line says something if this is computed
 some_is : {A : Type 0} (found : Option A) (other : A) → is_some found ≡ true → found ≡ Some (unwrap_or found other)
@@ -84,7 +83,7 @@ joins_good : (settings : Settings) (lines : List (List ℕ)) (stage : Stage) →
 unfolding are_good inputs_after prints_after stage_after Joins
 joins_good settings [] stage good = (refl, refl, refl)
 joins_good settings (line ∷ lines) stage good =
-    let next = (after_line settings stage line).stage in
+    let next = (after_line settings stage line).next in
     let both = and_parts (is_some (step_of settings stage line)) (are_good settings next lines) good in (
       after_line settings stage line,
       inputs_after settings next lines,
@@ -124,7 +123,7 @@ world : World
 world = unwrap_or (stage_after script_settings None until_it_asks) (opened script_settings 1 1)
 
 runner : Runner
-runner = unwrap_or (runner_at world 2) (runner_opened (opened_by (alone 1 1)))
+runner = unwrap_or (runner_at world 2) (runner_opened (node_opened script_settings 1 1 1))
 
 good_before : are_good script_settings None until_it_asks ≡ true
 unfolding are_good stage_after after_line prints_from step_of said_of words_said named_said nodes_said octets_said octets_parts settle_said nodes_in
@@ -145,7 +144,7 @@ unfolding runner world stage_after after_line prints_from step_of said_of words_
     nodes_with node_at number_of behind said.number_at cut_within decode_pairs on_octets on_frames on_frame told all_given_up accounts_up session_numbers
     target_in goes_out_up_to posted_for_all all_posted settles due_among has_record read_pdu framed body_at content_at number_at parameters_at taken_at
     text_at tlv_at tlvs_from id_in digits
-there_is = some_is (runner_at world 2) (runner_opened (opened_by (alone 1 1))) refl
+there_is = some_is (runner_at world 2) (runner_opened (node_opened script_settings 1 1 1)) refl
 
 held_is : held_in runner.streams 1 ≡ []
 unfolding runner world stage_after after_line prints_from step_of said_of words_said named_said nodes_said octets_said octets_parts settle_said nodes_in
