@@ -3,9 +3,12 @@
 ghost use Rattle.std.specs.Prelude.{◌≡◌, ℕ, ◌==◌, ◌≤◌, ◌<◌, ◌-◌, ◌&&◌, ◌||◌, true, false, get_or, length, set, OnOk};
 ghost use Rattle.script_runner.specs.Arrivals.{HaveCome, came_in};
 
-use mc_types::{NodeNo, NodeSet};
+use mc_types::{MOST_NODES, NodeNo, NodeSet};
 use std::alloc::{AllocError, Global};
 use std::marker::Model;
+
+/// Of how many nodes it is kept which packets came.
+const NODES: usize = MOST_NODES as usize;
 
 /// Which packets came to which of the nodes 1 to 9, by the numbers of the packets.
 #[derive(Drop)]
@@ -13,7 +16,7 @@ pub struct Arrivals {
     // At the place n - 1 the nodes to which the packet n came; one behind the last came to none.
     sets: Vec<NodeSet>,
     // At the place n - 1 the number up to which each packet came to node n.
-    marks: [u64; 9],
+    marks: [u64; NODES],
 }
 
 impl Model for Arrivals {
@@ -33,7 +36,7 @@ impl Arrivals {
     {
         Arrivals {
             sets: Vec::new(alloc),
-            marks: [0; 9],
+            marks: [0; NODES],
         }
     }
 
@@ -104,7 +107,7 @@ fn came_on(sets: &[NodeSet], node: NodeNo, from: u64) -> u64
 }
 
 /// The mark of a node.
-fn mark_of(marks: &[u64; 9], node: NodeNo) -> u64
+fn mark_of(marks: &[u64; NODES], node: NodeNo) -> u64
     ensures mark { result ≡ get_or marks.now (node - 1) 0 }
     ensures least { 1 ≤ node }
 {
@@ -115,7 +118,7 @@ fn mark_of(marks: &[u64; 9], node: NodeNo) -> u64
 }
 
 /// Sets the mark of a node.
-fn mark_at(marks: &mut [u64; 9], node: NodeNo, mark: u64)
+fn mark_at(marks: &mut [u64; NODES], node: NodeNo, mark: u64)
     ensures { marks.new ≡ set marks.old (node - 1) mark }
 {
     marks[node.number() as usize - 1] = mark;

@@ -365,7 +365,7 @@ fn takes_part(nodes: NodeSet, node: NodeNo) -> bool
 fn is_nobody(nodes: NodeSet) -> bool
     ensures { result ≡ (length (nodes_with (has nodes)) == 0) }
 {
-    for number in 1..10 {
+    for number in 1..=MOST_NODES {
         if nodes.has(NodeNo::of(number)) {
             return false;
         }

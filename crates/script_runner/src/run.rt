@@ -15,6 +15,13 @@ use script_lines::{Found as FoundLine, Line, LineBuffer, lines_are_read, read_li
 use std::alloc::{AllocError, Global};
 use std::io::{Read, Write};
 
+/// A line of a script, its line feed taken off, and its number, from 1 on.
+#[derive(Clone, Copy)]
+struct NumberedLine<'a> {
+    number: u64,
+    octets: &'a [u8],
+}
+
 /// Runs a script: reads its lines, and writes the output of each before it reads the next. `Ok` at its end.
 pub fn run_script<R: Read, W: Write>(
     alloc: Global,
@@ -36,28 +43,18 @@ pub fn run_script<R: Read, W: Write>(
             FoundLine::End => return Ok(()),
             FoundLine::TooLong => return Err(ScriptFault::BadLine(number + 1)),
             FoundLine::Last(count) => {
-                let line = &buffer.octets()[..count];
-                return write_line(
-                    alloc,
-                    &config,
-                    &mut stage,
-                    line,
-                    number + 1,
-                    &mut text,
-                    writer,
-                );
+                let line = NumberedLine {
+                    number: number + 1,
+                    octets: &buffer.octets()[..count],
+                };
+                return write_line(&config, &mut stage, line, &mut text, writer);
             }
             FoundLine::Line(count) => {
-                let line = &buffer.octets()[..count];
-                write_line(
-                    alloc,
-                    &config,
-                    &mut stage,
-                    line,
-                    number + 1,
-                    &mut text,
-                    writer,
-                )?;
+                let line = NumberedLine {
+                    number: number + 1,
+                    octets: &buffer.octets()[..count],
+                };
+                write_line(&config, &mut stage, line, &mut text, writer)?;
                 buffer.take_off(count + 1);
                 number += 1;
             }
@@ -65,22 +62,20 @@ pub fn run_script<R: Read, W: Write>(
     }
 }
 
-/// Does what the line of this number says, and writes its output, which is made in the place of what the text holds.
+/// Does what a line says, and writes its output, which is made in the place of what the text holds.
 fn write_line<W: Write>(
-    alloc: Global,
     config: &Config,
     stage: &mut Option<Centre>,
-    line: &[u8],
-    number: u64,
+    line: NumberedLine<'_>,
     text: &mut Vec<u8>,
     writer: &mut CountedWriter<W>,
 ) -> Result<(), ScriptFault>
     requires { settings_of config.now ≡ script_settings }
-    ensures { WritesLine W.contents result stage.old line.now number stage.new writer.old writer.new }
+    ensures { WritesLine W.contents result stage.old line.entry.octets.now line.entry.number stage.new writer.old writer.new }
 {
     text.clear();
-    if !step(alloc, config, stage, line, text)? {
-        return Err(ScriptFault::BadLine(number));
+    if !step(*text.allocator(), config, stage, line.octets, text)? {
+        return Err(ScriptFault::BadLine(line.number));
     }
     writer.write_all(text).map_err(|_| ScriptFault::Write)
 }

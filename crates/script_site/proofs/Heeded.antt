@@ -69,15 +69,6 @@ asked_so at new left number asked request account given refusal bound takes wait
     subst (λ (found : Option (List ℕ)). IsAskedSo home w (asks_if number runner asked request found) number asked refusal
     (record { world = new; site = record at.site { service = left } })) accounts so
 
--- nobody is bound there
-pub unasked_so : (at : Placed) (number : ℕ) (asked : Asked) (request : Request) → None ≡ account_at at.site.service.sessions number
-    → HasAsked at.site.node number asked request at at None
-unasked_so at number asked request unbound w runner running =
-    let nobody : None ≡ account_at runner.sessions number =
-    unbound ∙ ap (λ (sessions : List (ℕ × Session)). account_at sessions number) running.sessions in
-    subst (λ (found : Option (List ℕ)). IsAskedSo at.site.node w (asks_if number runner asked request found) number asked None at) nobody
-    (record { running = running; status = None; refused = refl; prints = refl })
-
 module _ (settings : Settings) (number : ℕ) (at : Placed) where
   abbrev home : ℕ
   home = at.site.node

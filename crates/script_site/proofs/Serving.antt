@@ -168,11 +168,11 @@ module _ (settings : Settings) (number : ℕ) (old : Runner) (session : Session)
 
 -- ---- the session that is left
 
-record IsLike (one other : Session) : Type 0 where
-  gone : is_gone one.state ≡ is_gone other.state
-  account : one.account ≡ other.account
+pub record IsLike (one other : Session) : Type 0 where
+  pub gone : is_gone one.state ≡ is_gone other.state
+  pub account : one.account ≡ other.account
 
-itself_like : (session : Session) → IsLike session session
+pub itself_like : (session : Session) → IsLike session session
 itself_like session = record { gone = refl; account = refl }
 
 window_account : (session : Session) (requested : Requested) (sequence : ℕ) (ticket : Option ℕ)
@@ -203,7 +203,7 @@ left_like settings number node came session (Ask requested) = request_like numbe
 left_like settings number node came session (Answered pushed) = itself_like session
 
 -- its account is that of the session of this number, if one is connected still
-account_so : (sessions : List (ℕ × Session)) (number : ℕ) (served session : Session) → IsLike served session
+pub account_so : (sessions : List (ℕ × Session)) (number : ℕ) (served session : Session) → IsLike served session
     → GoesIf (kept_at sessions number session) number (Some session)
     → account_at (kept_at sessions number served) number ≡ served.account
 account_so sessions number served session like goes = by_gone (is_gone served.state) refl

@@ -1,16 +1,24 @@
 -- A request goes to the node.
-use Rattle.std.specs.Prelude.{◌≡◌, ℕ, Option, option_map}
+use Rattle.std.specs.Prelude.{◌≡◌, ℕ, true, List, Option, is_some, option_map}
 use Rattle.desk.specs.declared.request.Request.{Request}
 use Rattle.pdu_tables.specs.StatusCodes.{status_code}
 use Rattle.pdu_tables.specs.declared.status.Status.{Status}
+use Rattle.sessions.specs.Session.{Session}
 use Rattle.sessions.specs.declared.response.Outgoing.{Outgoing}
 use Rattle.sessions.specs.declared.response.Response.TheVariants.{Refused}
 use Rattle.esme_service.specs.Sessions.{account_at}
 use Rattle.esme_service.specs.declared.heard.Asked.{Asked}
+use Rattle.esme_service.specs.declared.heard.Heard.{Heard}
+use Rattle.esme_service.specs.declared.heard.Heard.TheVariants as heards
 use Rattle.script_text.specs.Runner.{Acted, Runner, refusal_prints}
 use Rattle.script_text.specs.World.{World}
 use Rattle.script_site.specs.Heeding.{asks_if}
 use Rattle.script_site.specs.Sites.{IsRunning, Placed}
+
+-- a request is heard only on a session that has an account
+abbrev pub HasAsker : List (ℕ × Session) → ℕ → Heard → Type 0
+HasAsker connected number (heards.Request asked request) = is_some (account_at connected number) ≡ true
+HasAsker connected number other = Unit {0}
 
 -- the response that refuses what was asked with a status
 abbrev pub refusal_of : Asked → Status → Outgoing

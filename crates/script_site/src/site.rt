@@ -1,6 +1,6 @@
 //! What stands beside a node: the service of its ESMEs, and the streams of its sessions.
 
-ghost use Rattle.std.specs.Prelude.{◌≡◌, [], map, false, is_none, IfOk, OnOk};
+ghost use Rattle.std.specs.Prelude.{◌≡◌, [], map, false, true, is_none, is_some, IfOk, OnOk};
 ghost use Rattle.mc_model.specs.message.Chain.{taken_in};
 ghost use Rattle.mc_model.specs.synod.Packet.{slot_of};
 ghost use Rattle.delivery.specs.Deliveries.{EndsInAttempt};
@@ -35,7 +35,7 @@ pub struct Site {
 impl Site {
     ghost use Rattle.node_model.specs.Reported.{receipt_of};
     ghost use Rattle.waiting_requests.specs.Replying.{reply_given};
-    ghost use Rattle.script_site.specs.Asking.{HasAsked};
+    ghost use Rattle.script_site.specs.Asking.{HasAsked, HasAsker};
     ghost use Rattle.script_site.specs.Heeding.{heeded};
     ghost use Rattle.script_site.specs.Sites.{Acts, tells};
     ghost use Rattle.script_site.specs.Standing.{HasGivenUp, HasLeft, HasOpened, IsEmpty};
@@ -142,6 +142,7 @@ impl Site {
         heard: Heard,
         text: &mut Vec<u8>,
     ) -> Result<(), AllocError>
+        requires { HasAsker self.old.service.sessions number heard }
         ensures { OnOk result (Acts self.old.node (λ runner. heeded (settings_of config.now) number runner heard)
             (record { world = world.old; site = self.old }) (record { world = world.new; site = self.new }) text.old.items text.new.items) }
     {
@@ -181,7 +182,7 @@ impl Site {
         }
     }
 
-    /// A request goes to the node: it waits on its session, or this response refuses it.
+    /// A request of a session that is bound goes to the node: it waits on its session, or this response refuses it.
     fn ask(
         &mut self,
         world: &mut World,
@@ -189,12 +190,12 @@ impl Site {
         asked: Asked,
         request: Request,
     ) -> Result<Option<Outgoing>, AllocError>
+        requires { is_some (account_at self.old.service.sessions number) ≡ true }
         ensures { IfOk result (HasAsked self.old.node number asked request
             (record { world = world.old; site = self.old }) (record { world = world.new; site = self.new })) }
     {
         let Some(account) = self.service.account(number) else {
-            drop(request);
-            return Ok(None);
+            unreachable!();
         };
         let account = account.copy()?;
         let given = take(

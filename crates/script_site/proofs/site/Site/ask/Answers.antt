@@ -1,13 +1,14 @@
 use Rattle.std.proofs.Common.{Some, None, sym, ap, ◌∙◌}
 use Rattle.std.specs.Option.{option_copied, option_map}
 use Rattle.script_site.specs.Asking.{refusal_of}
-use Rattle.script_site.proofs.Heeded.{asked_so, unasked_so}
+use Rattle.esme_service.specs.Sessions.{account_at}
+use Rattle.script_site.proofs.Askers.{none_asks}
+use Rattle.script_site.proofs.Heeded.{asked_so}
 use Rattle.script_site.proofs.site.Site.ask.Goals as goal
 
-pub returns-in_default : goal.returns-in_default
-returns-in_default c =
-    unasked_so (record { world = c.args.world.now; site = c.args.self.now }) c.args.number c.args.asked c.args.request
-    (sym (ap option_copied c.in_default.is) ∙ c.account.ensures)
+pub unreachable-requires : goal.unreachable-requires
+unreachable-requires c =
+    none_asks (account_at c.args.self.now.service.sessions c.args.number) c.requires (sym c.account.ensures ∙ ap option_copied c.in_default.is)
 
 pub returns-in-Some-refused : goal.returns-in-Some-refused
 returns-in-Some-refused c =

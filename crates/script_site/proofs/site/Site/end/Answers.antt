@@ -1,6 +1,12 @@
 use Rattle.esme_service.specs.Settings.{settings_of}
+use Rattle.script_site.proofs.Askers.{ended_asks}
 use Rattle.script_site.proofs.Heeding.{end_acts}
 use Rattle.script_site.proofs.site.Site.end.Goals as goal
+
+pub heed-requires : goal.heed-requires
+heed-requires c =
+    ended_asks c.args.self.now.service c.hear_wrong_length-heard.new.self c.args.number c.hear_wrong_length-heard.result
+    c.hear_wrong_length-heard.ensures.heard c.hear_wrong_length-heard.ensures.after
 
 pub returns : goal.returns
 returns c =

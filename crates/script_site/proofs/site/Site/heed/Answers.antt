@@ -2,6 +2,7 @@ use Rattle.std.proofs.Common.{List, subst}
 use Rattle.esme_service.specs.Settings.{settings_of}
 use Rattle.sessions.specs.declared.pushed.Pushed.{Pushed}
 use Rattle.script_text.specs.Attempts.{all_given_up}
+use Rattle.script_site.specs.Asking.{HasAsker}
 use Rattle.script_site.specs.Sites.{Goes}
 use Rattle.script_site.proofs.Heeded.{answer_heeded, gone_heeded, nothing_heeded, refused_heeded, response_heeded, waiting_heeded}
 use Rattle.script_site.proofs.site.Site.heed.Goals as goal
@@ -16,6 +17,9 @@ returns-in-Response c =
     response_heeded (settings_of c.args.config.now) c.args.number (record { world = c.args.world.now; site = c.args.self.now }) c.write_outgoing.result
     c.args.heard c.in-Response.outgoing c.args.text.now.items c.write_outgoing.new.text.items c.in-Response.is
     (rw c.place.ensures at c.write_outgoing.ensures)
+
+pub ask-requires : goal.ask-requires
+ask-requires c = subst (HasAsker c.args.self.now.service.sessions c.args.number) c.in-Request.is c.requires
 
 pub returns-in-Some : goal.returns-in-Some
 returns-in-Some c =

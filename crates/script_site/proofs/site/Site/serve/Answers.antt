@@ -1,6 +1,12 @@
 use Rattle.esme_service.specs.Settings.{settings_of}
+use Rattle.script_site.proofs.Askers.{heard_asks}
 use Rattle.script_site.proofs.Heeding.{frame_acts}
 use Rattle.script_site.proofs.site.Site.serve.Goals as goal
+
+pub heed-requires : goal.heed-requires
+heed-requires c =
+    heard_asks c.args.self.now.service c.hear.new.self c.args.number c.in_ok-heard.heard (settings_of c.args.config.now) c.args.octets.now
+    c.in_ok-heard.ensures.heard c.in_ok-heard.ensures.after c.in_ok-heard.ensures.goes
 
 pub returns : goal.returns
 returns c =

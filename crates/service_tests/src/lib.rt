@@ -1,0 +1,11 @@
+//! The tests of `esme_service`, in a crate without code so that it is proved once.
+#![tactic(auto)]
+
+#[cfg(test)]
+mod calls;
+#[cfg(test)]
+mod octets;
+#[cfg(test)]
+mod same;
+#[cfg(test)]
+mod values;
