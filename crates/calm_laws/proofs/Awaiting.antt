@@ -216,7 +216,7 @@ module _ (waiting : List Packet) where
       ActedAlike (served_at (runner_behind runner) number one) (served_at runner number other)
   served_alike runner number one other alike = record {
     is = ap (λ (s : Served). served_at (runner_behind runner) number s) alike.is
-        ∙ ap (λ (r : Runner). record { next = r; inputs = other.inputs; prints = other.prints }) 
+        ∙ ap (λ (r : Runner). record { next = r; inputs = other.inputs; prints = other.prints })
         (session_behind runner number other.next.node other.next.session);
     alone = session_alone runner number other.next.node other.next.session alike.alone;
   }

@@ -5,7 +5,7 @@ use Rattle.std.proofs.lemmas.List.{append_assoc, append-nil, map-append}
 use Rattle.mc_model.specs.synod.Packet.{Packet}
 use Rattle.script_text.specs.Left.{followed_by}
 use Rattle.script_text.specs.Node.{awaiting}
-use Rattle.script_text.specs.Prints.{At, Print, WorldPrint}
+use Rattle.script_text.specs.Prints.{At}
 use Rattle.script_text.specs.Runner.{Acted, Runner, given_out, on_restart}
 use Rattle.script_text.specs.World.{World, Moved, acts, is_down, refuses, restarts, shared}
 use Rattle.script_text.specs.World as many

@@ -1,15 +1,12 @@
 -- What a line writes behind others, and what came on a session by the lines before it.
 use Rattle.std.proofs.Common.{◌≡◌, ◌⊎◌, ℕ, ◌≤◌, pred, Bool, true, false, List, [], ◌∷◌, ◌++◌, drop, length, Option, Some, None, refl}
 use Rattle.std.proofs.Common.{sym, ◌∙◌, ap, subst, inl, inr, append_assoc, append-nil}
-use Rattle.std.specs.Prelude.{if◌then◌else◌, option_map, slice_get}
-use Rattle.std.specs.List.{range_with_len}
-use Rattle.std.proofs.lemmas.Option.{slice_get-map}
+use Rattle.std.specs.Prelude.{if◌then◌else◌}
 use Rattle.mc_model.specs.synod.Lists.{In}
 use Rattle.pdu_frames.specs.Frames.{cut_within}
 use Rattle.script_lines.specs.Lines.{lines_of}
 use Rattle.script_lines.specs.Said.{Said, Skipped, Nodes, Octets, Deliver, Crash, Tick, Grant, Settle, Restart, Replay, names_within, said_of, said_within}
 use Rattle.script_lines.specs.Said.{◌>>=◌}
-use Rattle.script_text.specs.Runner.{Runner, runner_opened}
 use Rattle.script_text.specs.Settings.{Settings, script_settings}
 use Rattle.script_text.specs.Prints.{WorldPrint, world_line, world_text}
 use Rattle.script_text.specs.Script.{Joins, Stage, Stepped, after, prints_from, step_by, step_of}

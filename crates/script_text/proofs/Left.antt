@@ -1,5 +1,5 @@
 -- Acts one after another, however they are taken together.
-use Rattle.std.proofs.Common.{◌≡◌, ◌++◌, append_assoc}
+use Rattle.std.proofs.Common.{◌≡◌, append_assoc}
 use Rattle.script_text.specs.Left.{Left, followed_by}
 
 pub followed_assoc : {State Input Print : Type 0} (first middle last : Left State Input Print) →

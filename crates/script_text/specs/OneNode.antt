@@ -31,7 +31,7 @@ use Rattle.desk.specs.Admissions.{admitted}
 use Rattle.desk.specs.declared.door.Door.{Door}
 use Rattle.desk.specs.declared.request.Request.{Request as Asked}
 use Rattle.script_text.specs.Settings.{Settings, script_settings}
-use Rattle.script_text.specs.Left.{Left, followed_by, in_front, rests}
+use Rattle.script_text.specs.Left.{Left, followed_by, in_front}
 use Rattle.script_text.specs.Attempts.{unanswered}
 use Rattle.script_text.specs.Responses.{refusal_pdu, reply_pdu}
 use Rattle.script_text.specs.Prints.{Print, AtOnce, Late, Delivers, Ungranted, text_at}

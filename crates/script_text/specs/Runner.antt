@@ -1,39 +1,31 @@
 -- What the lines of a script do, by one node and the sessions with its ESMEs.
-use Rattle.std.specs.Prelude.{ℕ, zero, suc, nat_lt, ◌==◌, List, [], ◌∷◌, ◌++◌, find, map, is_none, Option, Some, None, Result, Ok, Err, if◌then◌else◌}
+use Rattle.std.specs.Prelude.{ℕ, nat_lt, List, [], ◌∷◌, ◌++◌, map, is_none, Option, Some, None, Result, Ok, Err, if◌then◌else◌}
 use Rattle.std.specs.Ordering.{nat_cmp}
-use Rattle.std.specs.Map.{lookup, remove_entry, set_value}
+use Rattle.std.specs.Map.{lookup, remove_entry}
 use Rattle.std.specs.BTreeMap.{is_at, insert_entry}
 use Rattle.mc_model.specs.message.Submission.{Submission}
 use Rattle.mc_model.specs.synod.Packet.{Packet, Slot}
 use Rattle.mc_model.specs.node.Grant.{GrantRefusal, refusal_number}
 use Rattle.mc_model.specs.node.Input.{Delivery, Grant, Input, Restart}
-use Rattle.mc_model.specs.node.Outcome.{Outcome}
 use Rattle.mc_model.specs.node.Outputs.{Receipt, Reply}
 use Rattle.node_model.specs.Attempts.{grant_refusal}
 use Rattle.node_model.specs.Granted.{known_slot}
 use Rattle.node_model.specs.Outputs.{Stepped}
-use Rattle.accounts.specs.Routes.{target_of}
 use Rattle.pdu_tables.specs.CommandCodes.{command_of}
 use Rattle.pdu_codec.specs.Grammar.{word_at}
 use Rattle.pdu_codec.specs.Pdu.{read_pdu}
 use Rattle.pdu_fields.specs.declared.fault.PduFault.{PduFault}
-use Rattle.pdu_bodies.specs.declared.pdu.Body.{Body}
-use Rattle.pdu_bodies.specs.declared.pdu.Body.TheVariants as bodies
 use Rattle.pdu_bodies.specs.declared.pdu.Pdu.{Pdu}
 use Rattle.pdu_frames.specs.Frames.{Cut, cut, begins_wrong}
-use Rattle.delivery.specs.Outcomes.{told_in}
 use Rattle.sessions.specs.Session.{Session}
 use Rattle.sessions.specs.Responses.{pdu_of, requested_by}
 use Rattle.sessions.specs.States.{is_gone}
-use Rattle.sessions.specs.Steps.{Done, on_fault, on_pdu, on_reply, on_wait, on_wrong_length}
-use Rattle.sessions.specs.Steps as sessions
+use Rattle.sessions.specs.Steps.{Done, on_fault, on_pdu, on_wrong_length}
 use Rattle.sessions.specs.declared.reaction.Reaction.{Reaction}
 use Rattle.sessions.specs.declared.pushed.Delivery.TheVariants.{Attempt}
 use Rattle.sessions.specs.declared.reaction.Reaction.TheVariants.{Respond, Leave, Ask, Answered}
-use Rattle.sessions.specs.declared.request.OpenRequest.{OpenRequest}
 use Rattle.sessions.specs.declared.requested.Requested.{Requested}
 use Rattle.desk.specs.declared.request.Request.{Request}
-use Rattle.desk.specs.declared.request.Request.TheVariants.{Submit, Ask as AskOf, Cancel}
 use Rattle.script_text.specs.Settings.{Settings}
 use Rattle.script_text.specs.Left.{Left, followed_by, in_front, rests}
 use Rattle.script_text.specs.Node.{Node, awaiting, request_at, step_at, tick_at, with_step}

@@ -1,5 +1,5 @@
 -- A node by itself with a new store.
-use Rattle.std.proofs.Common.{ℕ, [], get_or, refl, arith}
+use Rattle.std.proofs.Common.{ℕ, [], refl, arith}
 use Rattle.node_model.specs.Stepped.{opened_new}
 use Rattle.node_model.proofs.Places.{zeros}
 use Rattle.shelf.proofs.Entries.{none_ascends}

@@ -18,7 +18,6 @@ use Rattle.node_model.specs.Stepped.{stepped_down, stepped_up}
 use Rattle.node_laws.specs.Clusters.{MayHappen, NodeInput, cluster_outputs, kept_reached}
 use Rattle.node_laws.specs.Runs.{IsOneOf}
 use Rattle.node_laws.proofs.cluster.NoGrant.{no_grant}
-use Rattle.node_laws.proofs.invariant.Orders.{mapped_in}
 use Rattle.pdu_bodies.specs.declared.pdu.Pdu.{Pdu}
 use Rattle.script_lines.specs.Said.{Grant, said_within}
 use Rattle.script_lines.proofs.SaidLemmas.{spells_within}

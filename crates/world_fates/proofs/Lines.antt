@@ -1,9 +1,8 @@
 -- What a line leaves of the deliver_sm that wait for their answers, and when it brings a node an answer.
 use Rattle.std.proofs.Common.{◌≡◌, ◌⊎◌, ℕ, ◌≤◌, zero, suc, pred, Bool, true, false, List, [], ◌∷◌, ◌++◌, length, map, Option, Some, None, refl}
 use Rattle.std.proofs.Common.{sym, ◌∙◌, ap, subst, inl, inr, arith}
-use Rattle.std.specs.Prelude.{if◌then◌else◌, option_map, reverse, slice_get}
+use Rattle.std.specs.Prelude.{if◌then◌else◌, reverse, slice_get}
 use Rattle.std.specs.List.{range_with_len}
-use Rattle.std.proofs.lemmas.Option.{slice_get-map}
 use Rattle.mc_model.specs.message.Decree.{Delivered}
 use Rattle.mc_model.specs.synod.Lists.{In}
 use Rattle.mc_model.specs.synod.Packet.{Packet, Slot}
@@ -17,7 +16,7 @@ use Rattle.script_lines.proofs.SaidLemmas.{spells_within}
 use Rattle.script_text.proofs.Opening.{opened_there}
 use Rattle.script_text.specs.Left.{followed_by, rests}
 use Rattle.script_text.specs.Prints.{Delivers, Gone, Print}
-use Rattle.script_text.specs.Runner.{Acted, Runner, given_out, held_in, on_delivery, on_grant, on_octets, on_restart, on_tick, runner_opened}
+use Rattle.script_text.specs.Runner.{Acted, Runner, given_out, held_in, on_delivery, on_grant, on_octets, on_restart, on_tick}
 use Rattle.script_text.specs.Settings.{Settings}
 use Rattle.script_text.specs.Prints.{At, Refuses, StopsSettling}
 use Rattle.script_text.specs.Script.{Stepped, moved_by, step_by, step_of, stepped}

@@ -1,9 +1,5 @@
 -- What the lines of a script over several nodes print was given out by a cluster.
 use Rattle.std.proofs.Common.{◌≡◌, ℕ, suc, ◌≤◌, pred, List, [], ◌∷◌, ◌++◌, length, Option, Some, None, refl, sym, ◌∙◌, ap, subst, append_assoc, arith}
-use Rattle.std.specs.Prelude.{option_map, slice_get}
-use Rattle.std.specs.List.{range_with_len}
-use Rattle.std.proofs.lemmas.List.FromFn.{length-map-range_with_len}
-use Rattle.std.proofs.lemmas.Option.{slice_get-map}
 use Rattle.mc_model.specs.cluster.Steps.{Cluster, setup_of as cluster_setup}
 use Rattle.node_laws.specs.Clusters.{NodeInput}
 use Rattle.node_laws.specs.Runs.{IsOneOf}

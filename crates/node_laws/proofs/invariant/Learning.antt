@@ -1,12 +1,11 @@
 -- What is known of a message after one more packet, by what is kept of it.
 use Rattle.std.proofs.Common.{◌≡◌, ◌↔◌, ℕ, pred, Bool, true, false, List, [], ◌∷◌, length, Option, Some, None, sym, ap, subst, ◌∙◌, inl, inr, arith}
 use Rattle.std.specs.Prelude.{◌&&◌}
-use Rattle.std.specs.Bool.{Decides}
 use Rattle.std.proofs.lemmas.Bool.{and_parts, true≢false}
 use Rattle.std.proofs.lemmas.Bool.Decides.{Decides-ltb, nat_tests}
 use Rattle.mc_model.specs.message.Decree.{Decree}
 use Rattle.mc_model.specs.synod.Lists.{In}
-use Rattle.mc_model.specs.synod.Majority.{Majority, count}
+use Rattle.mc_model.specs.synod.Majority.{Majority}
 use Rattle.mc_model.specs.synod.OneSlot.{Vote}
 use Rattle.mc_model.specs.synod.Packet.{Packet, Slot, Voted, slot_at, slot_of}
 use Rattle.mc_model.specs.node.Knowledge.{IsLearned}

@@ -21,7 +21,7 @@ use Rattle.pdu_frames.specs.Frames.{Cut, cut, begins_wrong}
 use Rattle.sessions.specs.Session.{Session}
 use Rattle.script_text.specs.Left.{followed_by}
 use Rattle.script_text.specs.Settings.{Settings}
-use Rattle.script_text.specs.Node.{Node, awaiting, step_at, tick_at, with_step}
+use Rattle.script_text.specs.Node.{Node, step_at, tick_at, with_step}
 use Rattle.script_text.specs.Attempts.{concluded, submission_at, taken_on, unanswered}
 use Rattle.std.specs.Map.{remove_entry}
 use Rattle.std.specs.Ordering.{nat_cmp}
@@ -38,7 +38,7 @@ use Rattle.world_fates.proofs.node.Submitted.{WasSubmitted, known_submitted, sub
 use Rattle.world_fates.proofs.node.Telling.{AreMute, declined_is_mute, gone_is_mute, ungranted_is_mute}
 use Rattle.world_fates.proofs.node.Behind.{came_to, input_to}
 use Rattle.world_fates.proofs.node.ReceiptsOut.{AreReceiptsOut, receipts_out_later}
-use Rattle.world_fates.proofs.node.Standing.{IsAt, IsFit, Leads, Member, StepsTo, WereSent, delivery_steps, grant_steps, leads_still, restart_steps, tick_steps}
+use Rattle.world_fates.proofs.node.Standing.{IsAt, IsFit, Leads, Member, StepsTo, delivery_steps, grant_steps, leads_still, restart_steps, tick_steps}
 use Rattle.world_fates.proofs.node.Tellings.{FactOfPrints, IsTelling, NodePrint, TakesDeliveries, both_at, mutes_tell, prints_at, steps_tell}
 use Rattle.world_fates.proofs.node.Serving.{IsServed, all_lead, came_then, read_served, unanswered_leads, wrong_length_served}
 use Rattle.world_fates.proofs.node.Posting.{PostsSo, all_posted_so, posted_for_all_so, posted_for_any_so}
