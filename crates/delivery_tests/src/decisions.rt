@@ -6,10 +6,10 @@ use delivery::{DueDecree, Outcome};
 use fate_chain::{Author, Chain, ErrorCode, Final, Kind};
 use mc_types::{Ballot, Incarnation, Moment, NodeNo};
 use pdu_codec::{SystemId, Text};
-use tick_rules::{Attempted, Closing, Due, Standpoint, follow};
 use std::alloc::Global;
 use std::process::Abort;
 use synod_acceptor::Vote;
+use tick_rules::{Attempted, Closing, Due, Standpoint, follow};
 
 /// What was done with the attempt.
 #[derive(Clone, Copy)]

@@ -9,10 +9,10 @@ use desk::{Answer, shown};
 use mc_types::{Moment, MsgId};
 use pdu_codec::{Body, MessageIdText, Pdu, QueryAnswer, Text, TimeText};
 use pdu_tables::{State, Status};
-use waiting_requests::{Answer as Given, Reply};
 use sessions::{OpenRequest, encoded, pdu_with};
 use smpp_time::{times_fit_their_field, write_time};
 use std::alloc::{AllocError, Global};
+use waiting_requests::{Answer as Given, Reply};
 
 /// The octets of the reply to a request that waited. An `Err` is want of memory.
 pub(crate) fn reply_octets(

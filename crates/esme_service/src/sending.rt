@@ -7,8 +7,8 @@ use crate::owner::Owner;
 use crate::pushed_on::PushedOn;
 use crate::response::reply_octets;
 use fate_chain::Chain;
-use waiting_requests::Reply;
 use std::alloc::{AllocError, Global};
+use waiting_requests::Reply;
 
 /// What goes out on a session by what the node gave out. It takes no memory; its octets do.
 #[derive(Drop)]

@@ -17,11 +17,11 @@ use config::Config;
 use fate_chain::Chain;
 use mc_types::{Moment, Slot};
 use pdu_codec::SystemId;
-use waiting_requests::Reply;
 use sessions::{Delivery, OpenRequest, Pushed, Session};
 use std::alloc::{AllocError, AllocFailed, Global};
 use std::collections::BTreeMap;
 use std::marker::Model;
+use waiting_requests::Reply;
 
 /// The sessions of a node's ESMEs, by their numbers, and the receipts that wait for one. It owns no node: what comes on a session for the
 /// node is handed out (`Heard`), what the node gave out is handed in, and what goes out by that is handed out (`Sending`). An `Err` of a call

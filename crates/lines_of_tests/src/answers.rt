@@ -4,8 +4,8 @@ use crate::inputs::numbers;
 use desk::shown;
 use fate_chain::Chain;
 use node_core::{Outputs, StepFault};
-use waiting_requests::Reply;
 use synod_acceptor::Packet;
+use waiting_requests::Reply;
 
 /// What a node answers to what comes: a word, and numbers behind it. If it gives out more than one thing, the word is `Other`.
 pub type Answer = (&'static str, [u64; 4]);

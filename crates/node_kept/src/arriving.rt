@@ -13,8 +13,8 @@ ghost use Rattle.node_kept.specs.Steps.{IsStep};
 use crate::kept::Kept;
 use crate::queue_change::QueueChange;
 use crate::step::Step;
-use waiting_requests::{Held, Request};
 use std::alloc::AllocError;
+use waiting_requests::{Held, Request};
 
 impl Kept {
     /// The step in which a request comes: it waits under the next ticket. A submit_sm starts the round by which its message is taken, and

@@ -34,10 +34,10 @@ use fate_chain::{Author, Chain};
 use mc_types::{Ballot, Incarnation, Moment, MsgId, NodeNo, Slot};
 use node_parts::{Input, Message, MessageShelf, Outputs, StepFault, sender};
 use pdu_codec::SystemId;
-use waiting_requests::Queue;
-use tick_rules::Standpoint;
 use std::alloc::{AllocError, Global};
 use synod_acceptor::{Name, Packet, Record, Report, Verdict, Vote};
+use tick_rules::Standpoint;
+use waiting_requests::Queue;
 
 /// What a node keeps in an incarnation: its clock, the serial of its next message, how many tickets were given, the requests that wait,
 /// and what it knows of each message of which it heard.

@@ -19,8 +19,8 @@ use fate_chain::{ChainFault, Submission};
 use mc_types::MsgId;
 use pdu_codec::SystemId;
 use pdu_tables::Status;
-use waiting_requests::{Request, Taken};
 use std::alloc::AllocError;
+use waiting_requests::{Request, Taken};
 
 impl Kept {
     /// What it does with a request of an account: it refuses it at once, or lets it wait.

@@ -20,10 +20,10 @@ use crate::queue_change::QueueChange;
 use crate::step::Step;
 use fate_chain::Chain;
 use mc_types::{MsgId, NodeNo};
-use waiting_requests::{Held, Reply};
-use tick_rules::follow;
 use std::alloc::AllocError;
 use synod_acceptor::{Name, Vote};
+use tick_rules::follow;
+use waiting_requests::{Held, Reply};
 
 impl Kept {
     /// What it does with what a node tells.

@@ -32,9 +32,9 @@ use crate::walk::Walk;
 use mc_types::{Moment, MsgId};
 use node_parts::{Message, Outputs, Turn};
 use pdu_codec::SystemId;
-use tick_rules::Standpoint;
 use std::alloc::AllocError;
 use synod_acceptor::Packet;
+use tick_rules::Standpoint;
 
 impl Kept {
     /// The step of a tick, of which `idle` has the accounts with which one at this clock does nothing, if that is known. If the moment is not

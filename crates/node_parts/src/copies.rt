@@ -3,9 +3,9 @@
 ghost use Rattle.std.specs.Prelude.{◌≡◌, IfOk};
 
 use fate_chain::Chain;
-use waiting_requests::{Answer, Reply};
 use std::alloc::AllocError;
 use synod_acceptor::Packet;
+use waiting_requests::{Answer, Reply};
 
 /// The same packets once more.
 pub fn packets_copied(packets: &Vec<Packet>) -> Result<Vec<Packet>, AllocError>

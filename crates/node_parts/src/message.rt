@@ -42,12 +42,12 @@ use delivery::Outcome;
 use fate_chain::{Author, Chain, Decree, Kind};
 use mc_types::{Ballot, MsgId, NodeNo, Slot};
 use pdu_codec::SystemId;
-use waiting_requests::Queue;
-use tick_rules::{Attempted, Closing, Due, Standpoint, follow};
 use std::alloc::{AllocError, Global};
 use synod_acceptor::{Acceptor, Change, Packet, Record, Report, Verdict, Vote};
 use synod_learner::Learner;
 use synod_proposer::Proposer;
+use tick_rules::{Attempted, Closing, Due, Standpoint, follow};
+use waiting_requests::Queue;
 
 /// What a node keeps of one message: the records of its acceptor, what it heard and knows, what it proposes, and what it did with its
 /// attempts.

@@ -7,9 +7,9 @@ ghost use Rattle.node_parts.specs.Lists.{listed};
 use crate::copies::{chains_copied, packets_copied, replies_copied};
 use fate_chain::Chain;
 use pdu_tables::Status;
-use waiting_requests::Reply;
 use std::alloc::{AllocError, Global};
 use synod_acceptor::Packet;
+use waiting_requests::Reply;
 
 /// What a step gives out, the oldest first.
 #[derive(Drop)]

@@ -3,9 +3,9 @@
 use crate::same::assert_same;
 use crate::values::{Begins, Known, after, asking, held, said};
 use crate::waits::{Wait, alone, assert_waits, replies_at, tell_at};
-use waiting_requests::{Queue, Reply};
 use std::alloc::Global;
 use std::process::Abort;
+use waiting_requests::{Queue, Reply};
 
 #[test]
 fn a_queue_begins_empty(rt: HostRuntime) {

@@ -2,9 +2,9 @@
 
 use crate::same::assert_same;
 use crate::values::{Known, chain, id, message, said, tell, vote_for};
-use waiting_requests::Held;
 use std::alloc::Global;
 use std::process::Abort;
+use waiting_requests::Held;
 
 // What happens, and what is to come of it.
 #[derive(Clone, Copy)]

@@ -5,10 +5,10 @@ ghost use Rattle.std.specs.Prelude.{◌≡◌};
 use fate_chain::{Author, Chain, Decree, ErrorCode, Final, Kind, Submission};
 use mc_types::{Ballot, Incarnation, Moment, MsgId, NodeNo};
 use pdu_codec::{Address, ShortMessage, Text, Tlvs};
-use waiting_requests::{Answer, Held, Request, Taken};
 use std::alloc::Global;
 use std::process::Abort;
 use synod_acceptor::Vote;
+use waiting_requests::{Answer, Held, Request, Taken};
 
 // The start of 2000.
 pub const BEGINNING: u32 = 946684800;

@@ -2,9 +2,9 @@
 
 use crate::same::assert_same;
 use crate::values::{Known, after, chain, first, id, message, node, said, taken, tell, vote_for};
-use waiting_requests::{Held, Queue, Reply};
 use std::alloc::Global;
 use std::process::Abort;
+use waiting_requests::{Held, Queue, Reply};
 
 // What happens, and what is to come of it. Seconds are those after the start of 2000.
 #[derive(Clone, Copy)]

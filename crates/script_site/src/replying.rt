@@ -10,8 +10,8 @@ ghost use Rattle.script_site.specs.Told.{AreTold};
 use crate::output::write_sending;
 use esme_service::Service;
 use mc_types::NodeNo;
-use waiting_requests::Reply;
 use std::alloc::AllocError;
+use waiting_requests::Reply;
 
 /// Adds the lines of replies to requests that waited, one after another.
 pub(crate) fn write_replies(

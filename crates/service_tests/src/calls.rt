@@ -7,9 +7,9 @@ use config::Config;
 use esme_service::{Heard, Sending, Service};
 use mc_types::Moment;
 use pdu_tables::Status;
-use waiting_requests::{Answer, Reply};
 use std::alloc::Global;
 use std::process::Abort;
+use waiting_requests::{Answer, Reply};
 
 /// Whether session 1 is connected, whether its account is sme1, how many sessions and receivers there are, and whether a receipt waits.
 fn seen(rt: &impl Abort, service: &Service) -> (bool, bool, usize, usize, bool) {

@@ -8,9 +8,9 @@ ghost use Rattle.world.specs.Runs.{IsGiven};
 use fate_chain::Chain;
 use node_core::Outputs;
 use pdu_tables::Status;
-use waiting_requests::Reply;
 use sim_net::Packets;
 use std::alloc::Global;
+use waiting_requests::Reply;
 
 /// What a step gives out, the oldest first, but for its packets, which are among those that were sent.
 #[derive(Drop)]

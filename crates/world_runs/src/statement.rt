@@ -8,9 +8,9 @@ ghost use Rattle.world_runs.specs.Statements.{stated_at, stated_of, stated_recei
 
 use fate_chain::{Chain, Final};
 use mc_types::MsgId;
-use waiting_requests::{Answer, Reply};
 use std::alloc::AllocError;
 use std::marker::Model;
+use waiting_requests::{Answer, Reply};
 use world::Given;
 
 /// A final state that was told of a message (SMPP 3.4, section 5.2.28): in a receipt, in a query_sm_resp, or by ESME_ROK to a cancel_sm, which

@@ -7,9 +7,9 @@ use lines_of_tests::{account, first_id, request};
 use mc_types::{Moment, NodeNo, Slot};
 use node_core::Found;
 use pdu_codec::SystemId;
-use waiting_requests::Reply;
 use std::alloc::Global;
 use std::process::Abort;
+use waiting_requests::Reply;
 use world::{Given, Step, World, WorldFault};
 use world_runs::{Trace, run};
 
