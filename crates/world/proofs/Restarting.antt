@@ -78,7 +78,7 @@ sends_nothing cluster w node =
     ap (λ (o : Outputs). o.packets)
     (gives_nothing (w.kept node).up (restarted (setup_of cluster node) (w.kept node) 0) (restarted (setup_of cluster node) (w.kept node) 0))
 
-same_packets : (cluster : Cluster) (inputs : List NodeInput) (count : ℕ) →
+pub same_packets : (cluster : Cluster) (inputs : List NodeInput) (count : ℕ) →
     (kept_reached cluster (begin_anew count ++ inputs)).packets ≡ (kept_reached cluster inputs).packets
 same_packets cluster inputs zero = refl
 same_packets cluster inputs (suc count) =

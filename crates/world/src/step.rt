@@ -2,6 +2,7 @@
 
 ghost use Rattle.std.specs.Prelude.{◌≡◌, IfOk};
 ghost use Rattle.world.specs.Copies.{IsCopy};
+ghost use Rattle.world.specs.declared.step.Step.TheVariants as steps;
 
 use delivery::Outcome;
 use desk::Request;
@@ -69,16 +70,8 @@ impl Step {
                 node,
                 account,
                 request,
-            } => Step::Request {
-                node: *node,
-                account: account.copy()?,
-                request: request.copy()?,
-            },
-            Step::Tick { node, moment, up } => Step::Tick {
-                node: *node,
-                moment: *moment,
-                up: accounts_copied(up)?,
-            },
+            } => request_copied(*node, account, request)?,
+            Step::Tick { node, moment, up } => tick_copied(*node, *moment, up)?,
             Step::Grant { node, id } => Step::Grant {
                 node: *node,
                 id: *id,
@@ -104,6 +97,32 @@ impl Step {
             Step::Restart { node } => Step::Restart { node: *node },
         })
     }
+}
+
+/// The same request of an account once more.
+fn request_copied(
+    node: NodeNo,
+    account: &SystemId,
+    request: &Request,
+) -> Result<Step, AllocError>
+    ensures { IfOk result (IsCopy (steps.Request node account.now request.now)) }
+{
+    Ok(Step::Request {
+        node,
+        account: account.copy()?,
+        request: request.copy()?,
+    })
+}
+
+/// The same tick once more.
+fn tick_copied(node: NodeNo, moment: Moment, up: &Vec<SystemId>) -> Result<Step, AllocError>
+    ensures { IfOk result (IsCopy (steps.Tick node moment up.now)) }
+{
+    Ok(Step::Tick {
+        node,
+        moment,
+        up: accounts_copied(up)?,
+    })
 }
 
 /// The same accounts once more.
