@@ -100,11 +100,7 @@ impl Step {
 }
 
 /// The same request of an account once more.
-fn request_copied(
-    node: NodeNo,
-    account: &SystemId,
-    request: &Request,
-) -> Result<Step, AllocError>
+fn request_copied(node: NodeNo, account: &SystemId, request: &Request) -> Result<Step, AllocError>
     ensures { IfOk result (IsCopy (steps.Request node account.now request.now)) }
 {
     Ok(Step::Request {
