@@ -1,10 +1,8 @@
 -- A node of a script over one node: it is up, and its packets are its own.
-use Rattle.std.specs.Prelude.{if◌then◌else◌}
-use Rattle.std.proofs.Common.{◌≡◌, ℕ, Bool, true, List, [], Result, Ok, Err, ap, subst, ◌∙◌}
+use Rattle.std.proofs.Common.{◌≡◌, ℕ, true, List, [], Result, Ok, Err, subst, ◌∙◌}
 use Rattle.mc_model.specs.node.Actor.{Request}
-use Rattle.mc_model.specs.node.Input.{Input, Restart}
+use Rattle.mc_model.specs.node.Input.{Input}
 use Rattle.mc_model.specs.synod.Packet.{Packet}
-use Rattle.node_model.specs.Stepped.{stepped_down, stepped_up}
 use Rattle.pdu_tables.specs.declared.status.Status.{Status}
 use Rattle.desk.specs.Admissions.{admitted}
 use Rattle.desk.specs.Arrivals.{door_at, judged_as, next_id}
@@ -30,14 +28,6 @@ step_alone node alone input plain = record {
   number = alone.number;
   up = (goes_on node.setup node.kept input alone.up plain).up ∙ alone.up;
   own = step_own node alone input;
-}
-
--- it starts anew
-pub restart_alone : (node : Node) → IsAlone node → IsAlone (with_step node (step_at node (Restart 0)))
-restart_alone node alone = record {
-  number = alone.number;
-  up = ap (λ (up : Bool). (if up then stepped_up node.setup node.kept (Restart 0) else stepped_down node.setup node.kept (Restart 0)).kept.up) alone.up;
-  own = step_own node alone (Restart 0);
 }
 
 -- it has the packets of another list to come

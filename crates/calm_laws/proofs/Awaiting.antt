@@ -1,5 +1,5 @@
 -- What a runner does is the same if packets wait at its node and if none do: what it sends comes behind those that wait.
-use Rattle.std.specs.Prelude.{nat_lt, is_none}
+use Rattle.std.specs.Prelude.{is_none}
 use Rattle.std.specs.Map.{remove_entry}
 use Rattle.std.specs.Ordering.{nat_cmp}
 use Rattle.std.specs.BTreeMap.{is_at}
@@ -8,7 +8,7 @@ use Rattle.std.proofs.lemmas.List.{append_assoc, append-nil}
 use Rattle.mc_model.specs.message.Submission.{Submission}
 use Rattle.mc_model.specs.synod.Packet.{Packet, Slot}
 use Rattle.mc_model.specs.node.Grant.{GrantRefusal}
-use Rattle.mc_model.specs.node.Input.{Delivery, Grant as Asks, Input, Response, Restart as StartsAnew}
+use Rattle.mc_model.specs.node.Input.{Delivery, Grant as Asks, Input, Response}
 use Rattle.mc_model.specs.node.Outcome.{Outcome}
 use Rattle.node_model.specs.Attempts.{grant_refusal}
 use Rattle.node_model.specs.Granted.{is_open, known_slot}
@@ -35,15 +35,15 @@ use Rattle.script_text.specs.Node.{Node, awaiting, request_at, step_at, tick_at,
 use Rattle.script_text.specs.Prints.{Print}
 use Rattle.script_text.specs.Pushes.{accounts_up, overdue_in, session_at, target_in}
 use Rattle.script_text.specs.Attempts.{Went, all_given_up, concluded, delivered_so, given_up, submission_at, unanswered, went}
-use Rattle.script_text.specs.Runner.{Runner, Acted, Served, Came, answered_by, came_by, declined, ends, fails_by, given_out, gives_up}
-use Rattle.script_text.specs.Runner.{gives_up_by, gone_on, granted, granted_unless, held_in, holds, last_incarnation, makes_room}
-use Rattle.script_text.specs.Runner.{no_incarnation, nothing_came, on_delivery, on_done, on_frame, on_frames, on_grant, on_input}
-use Rattle.script_text.specs.Runner.{on_octets, on_reaction, on_read, on_request, on_rest, on_restart, on_tick, opened_at, posts}
-use Rattle.script_text.specs.Runner.{posts_for, posts_for_all, pushes, put_at, reaction_prints, reports_by, restarted, sent, sent_to}
+use Rattle.script_text.specs.Runner.{Runner, Acted, Served, Came, answered_by, came_by, ends, fails_by, given_out, gives_up}
+use Rattle.script_text.specs.Runner.{gives_up_by, gone_on, granted, granted_unless, held_in, holds, makes_room}
+use Rattle.script_text.specs.Runner.{nothing_came, on_delivery, on_done, on_frame, on_frames, on_grant, on_input}
+use Rattle.script_text.specs.Runner.{on_octets, on_reaction, on_read, on_request, on_rest, on_tick, opened_at, posts}
+use Rattle.script_text.specs.Runner.{posts_for, posts_for_all, pushes, put_at, reaction_prints, reports_by, sent, sent_to}
 use Rattle.script_text.specs.Runner.{served_at, serves, session_in, ticked, unasked, with_session}
 use Rattle.arrival_laws.proofs.Comings.{IsPlain}
 use Rattle.calm_laws.proofs.Queue.{delivers}
-use Rattle.calm_laws.proofs.Alone.{IsAlone, none_alone, request_plain, restart_alone, step_alone}
+use Rattle.calm_laws.proofs.Alone.{IsAlone, none_alone, request_plain, step_alone}
 
 module _ (waiting : List Packet) where
   -- these packets wait in front of those that the node has
@@ -343,20 +343,6 @@ module _ (waiting : List Packet) where
 
   pub grant_alike : (id : ℕ) (runner : Runner) → IsAlone runner.node → ActedAlike (on_grant (runner_behind runner) id) (on_grant runner id)
   grant_alike id runner alone = granted_alike id (known_slot runner.node.kept id) (grant_refusal runner.node.setup runner.node.kept id) runner alone
-
-  -- ---- a restart
-
-  pub restart_alike : (runner : Runner) → IsAlone runner.node → ActedAlike (on_restart (runner_behind runner)) (on_restart runner)
-  restart_alike runner alone = by_test (nat_lt runner.node.kept.incarnation last_incarnation)
-    where
-      by_test : (test : Bool) → ActedAlike
-          (cond {A = Acted} test (restarted (runner_behind runner)) (declined (runner_behind runner) no_incarnation))
-          (cond {A = Acted} test (restarted runner) (declined runner no_incarnation))
-      by_test true = record {
-        is = ap (λ (n : Node). let acted = restarted runner in record acted { next = record acted.next { node = n } }) (step_behind runner.node (StartsAnew 0));
-        alone = restart_alone runner.node alone;
-      }
-      by_test false = record { is = refl; alone = alone }
 
   -- ---- a packet comes
 

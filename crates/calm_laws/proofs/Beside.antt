@@ -6,11 +6,11 @@ use Rattle.mc_model.specs.synod.Packet.{Packet}
 use Rattle.script_text.specs.Left.{followed_by}
 use Rattle.script_text.specs.Node.{awaiting}
 use Rattle.script_text.specs.Prints.{At}
-use Rattle.script_text.specs.Runner.{Acted, Runner, given_out, on_restart}
-use Rattle.script_text.specs.World.{World, Moved, acts, is_down, refuses, restarts, shared}
+use Rattle.script_text.specs.Runner.{Acted, Runner, given_out}
+use Rattle.script_text.specs.World.{World, Moved, acts, is_down, refuses, shared}
 use Rattle.script_text.specs.World as many
 use Rattle.calm_laws.proofs.Alone.{IsAlone, none_alone, others_alone}
-use Rattle.calm_laws.proofs.Awaiting.{ActedAlike, acted_behind, restart_alike, runner_behind}
+use Rattle.calm_laws.proofs.Awaiting.{ActedAlike, acted_behind, runner_behind}
 use Rattle.calm_laws.proofs.Sending.{AreSentBy, both_sent}
 
 -- the first packets came to the node, and no others
@@ -95,7 +95,3 @@ acts_beside act away runner world beside =
     subst (λ (moved : Moved). GoesBeside (act runner) moved)
     (sym (ap (λ (w : World). acts w 1 act) beside.is ∙ acts_up runner beside.alone beside.past waiting beside.came (λ r. shared here 1 (act r))))
     (shares act away runner world beside)
-
-pub restarts_beside : (runner : Runner) (world : World) → IsBeside runner world → GoesBeside (on_restart runner) (restarts world 1)
-restarts_beside runner world beside =
-    subst (λ (w : World). GoesBeside (on_restart runner) (restarts w 1)) (sym beside.is) (shares on_restart restart_alike runner world beside)

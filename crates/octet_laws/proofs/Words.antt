@@ -7,6 +7,7 @@ use Rattle.std.specs.List.{AllByRecursion, list_any}
 use Rattle.std.proofs.lemmas.Bool.Decides.{nat_tests}
 use Rattle.std.proofs.lemmas.Bool.{cases_lt, eqb-false, or_parts}
 use Rattle.std.proofs.lemmas.List.{get_or_past}
+use Rattle.octet_fields.proofs.Octets.{ok_is}
 use Rattle.hex.specs.Hex.{decode_of, decode_pairs, encode_lower, encode_with, hex_digit_value, digit_or_error, lower_digits, pair_value, ◌>>=◌}
 use Rattle.hex.specs.declared.error.FromHexError.{FromHexError}
 use Rattle.hex.specs.declared.error.FromHexError.TheVariants.{OddLength}
@@ -98,11 +99,8 @@ then_ok : {A B : Type 0} (r : Result A FromHexError) (f : A → Result B FromHex
 then_ok (Ok x) f y is = (x, refl, is)
 then_ok (Err fault) f y is = absurd cc
 
-same_ok : {A : Type 0} (one other : A) → ◌≡◌ {A = Result A FromHexError} (Ok one) (Ok other) → one ≡ other
-same_ok one other is = cc
-
 one_ok : (r : Result ℕ FromHexError) (one other : ℕ) → r ≡ Ok one → r ≡ Ok other → one ≡ other
-one_ok r one other is also = same_ok one other (sym is ∙ also)
+one_ok r one other is also = ok_is one other (sym is ∙ also)
 
 -- octets are read of the front of these
 pub record IsFrontRead (octets read : List ℕ) : Type 0 where
@@ -112,7 +110,7 @@ pub record IsFrontRead (octets read : List ℕ) : Type 0 where
 -- each octet that digits name was written so
 pairs_back : (at : ℕ) (text more octets read : List ℕ) → text ++ more ≡ encode_lower octets → decode_pairs at text ≡ Ok read → IsFrontRead octets read
 unfolding encode_with decode_pairs
-pairs_back at [] more octets read same is = record { rest = octets; is = ap (λ (front : List ℕ). front ++ octets) (same_ok [] read is) }
+pairs_back at [] more octets read same is = record { rest = octets; is = ap (λ (front : List ℕ). front ++ octets) (ok_is [] read is) }
 pairs_back at (digit ∷ []) more octets read same is = absurd cc
 pairs_back at (high ∷ low ∷ text) more [] read same is = absurd cc
 pairs_back at (high ∷ low ∷ text) more (octet ∷ octets) read same is =
@@ -140,7 +138,7 @@ pairs_back at (high ∷ low ∷ text) more (octet ∷ octets) read same is =
           let whole : octet / 16 * 16 + octet % 16 ≡ octet = omega arith in
           record {
             rest = later.rest;
-            is = subst (λ (front : List ℕ). octet ∷ octets ≡ front ++ later.rest) (same_ok (one.0 ∷ others.0) read others.2)
+            is = subst (λ (front : List ℕ). octet ∷ octets ≡ front ++ later.rest) (ok_is (one.0 ∷ others.0) read others.2)
                 (λ i. sym (byte ∙ whole) i ∷ later.is i);
           }
       | inr above ↦

@@ -22,8 +22,3 @@ pub row_least : (first count number : ℕ) → In number (range_with_len first c
 row_least first zero number among = absurd among
 row_least first (suc count) number (inl same) = omega (arith, same)
 row_least first (suc count) number (inr later) = let least = row_least (first + 1) count number later in omega (arith, least)
-
-pub row_at : (first count place number : ℕ) → slice_get (range_with_len first count) place ≡ Some number → number ≡ first + place
-row_at first zero place number is = absurd cc
-row_at first (suc count) zero number is = let same : first ≡ number = cc in omega (arith, same)
-row_at first (suc count) (suc place) number is = let at = row_at (first + 1) count place number is in omega (arith, at)

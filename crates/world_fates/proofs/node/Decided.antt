@@ -95,22 +95,6 @@ decided_after node w h by act may id final d = record {
 
 -- ---- replies
 
--- a fate that is chosen is decided at a node at which no request about the message waits
-pub chosen_decides : (node : ℕ) (w : World) (id : ℕ) (chain : List Decree) (final : Final) → Chosen w id chain → final_in chain ≡ Some final →
-    ((waiting : Waiting) → In waiting (w.actors node).waiting → id_in waiting.request ≡ id → ⊥) → IsDecided node w id final
-chosen_decides node w id chain final chosen ends none = record {
-  chain = chain;
-  ballot = chosen.ballot;
-  ends = ends;
-  seen = inr (record {
-    before = w;
-    nodes = refl;
-    chosen = chosen.chosen;
-    votes = λ c is_in. is_in;
-    asked = λ waiting is_in about. absurd (none waiting is_in about);
-  });
-}
-
 -- what a reply tells is decided then
 pub told_decides : (node : ℕ) (w : World) (id : ℕ) (chain : List Decree) (final : Final) → Knows w.nodes (w.actors node).received id chain →
     final_in chain ≡ Some final → IsDecided node w id final
