@@ -60,21 +60,28 @@ module _ (quiet : ℕ → Given) (is : IsQuiet quiet) where
   own_run : IsOwnRun setup at_first (done_in (entries_at 1 (worked quiet))) at_last
   own_run = (
     record { input = Delivery prepare; comes = refl; up = refl; may = record {}; gives = gave 1 (promise ∷ []); count = (is 1).1 },
-    record { input = Delivery promise; comes = refl; up = refl; may = record {}; gives = gave 1 (propose ∷ []); count = (is 1).1 },
-    record { input = Crash propose true; comes = refl; up = refl; may = (refl, omega arith); gives = gave 0 []; count = (is 0).1 },
-    record { input = Restart 0; comes = refl; up = record {}; may = omega arith; gives = gave 0 []; count = (is 0).1 },
-    record { input = Delivery prepare; comes = refl; up = refl; may = record {}; gives = gave 1 (refused ∷ []); count = (is 1).1 },
-    refl
+    (
+      record { input = Delivery promise; comes = refl; up = refl; may = record {}; gives = gave 1 (propose ∷ []); count = (is 1).1 },
+      (
+        record { input = Crash propose true; comes = refl; up = refl; may = (refl, omega arith); gives = gave 0 []; count = (is 0).1 },
+        (
+          record { input = Restart 0; comes = refl; up = record {}; may = omega arith; gives = gave 0 []; count = (is 0).1 },
+          (record { input = Delivery prepare; comes = refl; up = refl; may = record {}; gives = gave 1 (refused ∷ []); count = (is 1).1 }, refl)
+        )
+      )
+    )
   )
 
   were_sent : WereSent 0 (kept_reached alone before).packets (done_in (worked quiet))
   were_sent = (
     (omega arith, record { newer = []; older = []; split = refl; number_is = refl }),
-    (omega arith, record { newer = []; older = prepare ∷ []; split = refl; number_is = refl }),
-    (omega arith, record { newer = []; older = promise ∷ prepare ∷ []; split = refl; number_is = refl }),
-    record {},
-    (omega arith, record { newer = propose ∷ promise ∷ []; older = []; split = refl; number_is = refl }),
-    record {}
+    (
+      (omega arith, record { newer = []; older = prepare ∷ []; split = refl; number_is = refl }),
+      (
+        (omega arith, record { newer = []; older = promise ∷ prepare ∷ []; split = refl; number_is = refl }),
+        (record {}, ((omega arith, record { newer = propose ∷ promise ∷ []; older = []; split = refl; number_is = refl }), record {}))
+      )
+    )
   )
 
   in_range : (entry : Entry) → In entry (worked quiet) → IsInRange alone (node_at entry.done.step)
