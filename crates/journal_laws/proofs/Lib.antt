@@ -1,3 +1,4 @@
 pub mod Running
+pub mod Joining
 pub mod Telling
 pub mod Worked

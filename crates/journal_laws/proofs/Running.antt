@@ -163,6 +163,12 @@ given_so done outputs same count = record {
   packets = count ∙ ap (λ (o : Outputs). length o.packets) (sym same);
 }
 
+pub packets_more : (before sent others gave : List Packet) → gave ≡ sent → reverse others ++ (reverse gave ++ before) ≡ reverse (sent ++ others) ++ before
+packets_more before sent others gave same =
+    ap (λ (ps : List Packet). reverse others ++ (reverse ps ++ before)) same
+    ∙ sym (append_assoc (reverse others) (reverse sent) before)
+    ∙ ap (λ (ps : List Packet). ps ++ before) (sym (reverse-append sent others))
+
 module _ (cluster : Cluster) (few : cluster.nodes ≤ 9) (behind : List Packet) (ends : ℕ → Kept) where
   abbrev OwnRuns : (ℕ → Kept) → List Done → Type 0
   OwnRuns kept taken = (node : ℕ) → IsInRange cluster node → IsOwnRun (setup_of cluster node) (kept node) (of_node node taken) (ends node)
@@ -232,12 +238,6 @@ module _ (cluster : Cluster) (few : cluster.nodes ≤ 9) (behind : List Packet) 
         kept = on.kept;
         packets = on.packets ∙ packets_more w.packets done.sent (flat_map (λ other. other.sent) later) (step_at cluster w next).outputs.packets gave;
       }
-    where
-      packets_more : (before sent others gave : List Packet) → gave ≡ sent → reverse others ++ (reverse gave ++ before) ≡ reverse (sent ++ others) ++ before
-      packets_more before sent others gave same =
-          ap (λ (ps : List Packet). reverse others ++ (reverse ps ++ before)) same
-          ∙ sym (append_assoc (reverse others) (reverse sent) before)
-          ∙ ap (λ (ps : List Packet). ps ++ before) (sym (reverse-append sent others))
 
 -- ---- steps of entries
 

@@ -1,3 +1,4 @@
 pub mod Journals
+pub mod Joining
 pub mod Telling
 pub mod Example

@@ -1,6 +1,6 @@
 //! Laws of journals: nothing to call, but to cite.
 
-ghost use Rattle.std.specs.Prelude.{ℕ, [], List};
+ghost use Rattle.std.specs.Prelude.{ℕ, [], ◌++◌, List};
 ghost use Rattle.mc_model.specs.synod.Packet.{Packet};
 ghost use Rattle.mc_model.specs.cluster.Steps.{Cluster};
 ghost use Rattle.node_model.specs.Kept.{Kept};
@@ -9,6 +9,7 @@ ghost use Rattle.world_runs.specs.Traces.{AcceptedAreKnown, AreChosen, Deliverie
 ghost use Rattle.journal_laws.specs.Journals.{Entry, IsJournal, RunsOn, answers_given, events_done, packets_sent};
 ghost use Rattle.world.specs.declared.given.Given.{Given};
 ghost use Rattle.journal_laws.specs.Example.{IsQuiet, alone, before, worked};
+ghost use Rattle.journal_laws.specs.Joining.{IsCut};
 ghost use Rattle.journal_laws.specs.Telling.{DeliveriesStandInItsRun};
 
 /// The journal of a cluster is a run of it: if each node's entries are its own run, and each packet that comes was sent before, then the run of the
@@ -16,6 +17,16 @@ ghost use Rattle.journal_laws.specs.Telling.{DeliveriesStandInItsRun};
 pub fn a_journal_is_a_run()
     ensures { (cluster : Cluster) (behind : List Packet) (inputs : List NodeInput) (entries : List Entry) (ends : ℕ → Kept) →
         IsJournal cluster behind inputs entries ends → RunsOn cluster behind inputs entries ends }
+{}
+
+/// A journal that begins where the run of another one leads is a part of one journal: both of them, one after the other. And each journal can be cut so, at
+/// any place: its front is a journal, and what is behind is one from where the front leads.
+pub fn a_journal_goes_on()
+    ensures both { (cluster : Cluster) (behind : List Packet) (inputs : List NodeInput) (first second : List Entry) (middles ends : ℕ → Kept) →
+        IsJournal cluster behind inputs first middles → (way : RunsOn cluster behind inputs first middles) →
+        IsJournal cluster behind way.last second ends → IsJournal cluster behind inputs (first ++ second) ends }
+    ensures cut { (cluster : Cluster) (behind : List Packet) (inputs : List NodeInput) (first second : List Entry) (ends : ℕ → Kept) →
+        IsJournal cluster behind inputs (first ++ second) ends → IsCut cluster behind inputs first second ends }
 {}
 
 /// So no two final states that its entries tell of one message differ, whichever nodes tell them.
