@@ -4,13 +4,20 @@ ghost use Rattle.std.specs.Prelude.{ℕ, [], ◌++◌, List};
 ghost use Rattle.mc_model.specs.synod.Packet.{Packet};
 ghost use Rattle.mc_model.specs.cluster.Steps.{Cluster};
 ghost use Rattle.node_model.specs.Kept.{Kept};
-ghost use Rattle.node_laws.specs.Clusters.{NodeInput};
-ghost use Rattle.world_runs.specs.Traces.{AcceptedAreKnown, AreChosen, DeliveriesStand, GrantsNoneAfterAFate, HasOneFate, LaterQueriesAreTold};
-ghost use Rattle.journal_laws.specs.Journals.{Entry, IsJournal, RunsOn, answers_given, events_done, packets_sent};
+ghost use Rattle.node_laws.specs.Clusters.{NodeInput, kept_reached};
+ghost use Rattle.journal_laws.specs.Journals.{Entry, IsJournal, RunsOn};
 ghost use Rattle.world.specs.declared.given.Given.{Given};
 ghost use Rattle.journal_laws.specs.Example.{IsQuiet, alone, before, worked};
 ghost use Rattle.journal_laws.specs.Joining.{IsCut};
-ghost use Rattle.journal_laws.specs.Telling.{DeliveriesStandInItsRun};
+ghost use Rattle.journal_laws.specs.Telling.{
+  AcceptedAreKnown,
+  AreChosen,
+  DeliveriesStand,
+  DeliveriesStandInTheRun,
+  GrantNoneAfterAFate,
+  LaterQueriesAreTold,
+  TellOneFate,
+};
 
 /// The journal of a cluster is a run of it: if each node's entries are its own run, and each packet that comes was sent before, then the run of the
 /// cluster goes on by the steps of all entries, in the order of the journal, with what they gave.
@@ -32,38 +39,38 @@ pub fn a_journal_goes_on()
 /// So no two final states that its entries tell of one message differ, whichever nodes tell them.
 pub fn a_journal_tells_one_fate()
     ensures { (cluster : Cluster) (behind : List Packet) (inputs : List NodeInput) (entries : List Entry) (ends : ℕ → Kept) →
-        IsJournal cluster behind inputs entries ends → HasOneFate (answers_given entries) }
+        IsJournal cluster behind inputs entries ends → TellOneFate entries }
 {}
 
-/// And once an entry told a final state of a message, as DELETED by ESME_ROK to its cancel_sm, no later entry grants an attempt of it.
+/// And behind an entry that told a final state of a message, as DELETED by ESME_ROK to its cancel_sm, none grants an attempt of it.
 pub fn a_journal_grants_nothing_after_a_fate()
     ensures { (cluster : Cluster) (behind : List Packet) (inputs : List NodeInput) (entries : List Entry) (ends : ℕ → Kept) →
-        IsJournal cluster behind inputs entries ends → GrantsNoneAfterAFate (answers_given entries) }
+        IsJournal cluster behind inputs entries ends → GrantNoneAfterAFate entries }
 {}
 
 /// And before an entry tells DELIVERED of a message, an attempt of it was granted at the node of the attempt's author, and its answer ESME_ROK was taken
 /// there, in the same life of the node: by earlier entries, if all stores were new, and else by them or before them.
 pub fn a_journal_tells_deliveries_that_stand()
     ensures new { (cluster : Cluster) (behind : List Packet) (entries : List Entry) (ends : ℕ → Kept) →
-        IsJournal cluster behind [] entries ends → DeliveriesStand (events_done entries) }
+        IsJournal cluster behind [] entries ends → DeliveriesStand entries }
     ensures any { (cluster : Cluster) (behind : List Packet) (inputs : List NodeInput) (entries : List Entry) (ends : ℕ → Kept) →
-        IsJournal cluster behind inputs entries ends → DeliveriesStandInItsRun cluster behind inputs entries }
+        IsJournal cluster behind inputs entries ends → DeliveriesStandInTheRun cluster behind inputs entries }
 {}
 
-/// And if all stores were new, then before an entry tells a final state of a message, a majority of the nodes voted for its chain at one ballot, in packets
-/// that earlier entries sent.
+/// And before an entry tells a final state of a message, a majority of the nodes voted for its chain at one ballot, in packets that were sent before the
+/// journal or by earlier entries.
 pub fn a_journal_tells_what_was_chosen()
-    ensures { (cluster : Cluster) (behind : List Packet) (entries : List Entry) (ends : ℕ → Kept) →
-        IsJournal cluster behind [] entries ends → AreChosen cluster.nodes (packets_sent entries) (answers_given entries) }
+    ensures { (cluster : Cluster) (behind : List Packet) (inputs : List NodeInput) (entries : List Entry) (ends : ℕ → Kept) →
+        IsJournal cluster behind inputs entries ends → AreChosen cluster.nodes (kept_reached cluster inputs).packets entries }
 {}
 
 /// And a query_sm whose entry stands behind one that told a final state of its message, and that is answered by ESME_ROK in the same life of its node, is
 /// told that state; and no request whose entry stands behind ESME_ROK to the submit_sm of its message is answered so that there is no such message.
 pub fn a_journal_answers_by_what_it_told()
     ensures told { (cluster : Cluster) (behind : List Packet) (inputs : List NodeInput) (entries : List Entry) (ends : ℕ → Kept) →
-        IsJournal cluster behind inputs entries ends → LaterQueriesAreTold (events_done entries) }
+        IsJournal cluster behind inputs entries ends → LaterQueriesAreTold entries }
     ensures known { (cluster : Cluster) (behind : List Packet) (inputs : List NodeInput) (entries : List Entry) (ends : ℕ → Kept) →
-        IsJournal cluster behind inputs entries ends → AcceptedAreKnown (events_done entries) }
+        IsJournal cluster behind inputs entries ends → AcceptedAreKnown entries }
 {}
 
 /// Such journals are: a node promises and proposes, stops as it has saved its vote, starts anew, and refuses the Prepare that comes once more. What it gives
