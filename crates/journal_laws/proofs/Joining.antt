@@ -1,10 +1,8 @@
 -- Journals one after the other, and a journal cut in two.
-use Rattle.std.proofs.Common.{◌≡◌, ℕ, ◌≤◌, Bool, true, false, List, [], ◌∷◌, ◌++◌, length, refl, sym, ap, subst, ◌∙◌, inl, inr, arith, append_assoc}
+use Rattle.std.proofs.Common.{◌≡◌, ℕ, Bool, true, false, List, [], ◌∷◌, ◌++◌, length, refl, sym, ap, subst, ◌∙◌, inl, inr, arith, append_assoc}
 use Rattle.std.specs.Prelude.{reverse, filter, cond, nat_le, ◌&&◌, ◌==◌}
 use Rattle.std.specs.List.{flat_map}
 use Rattle.std.proofs.lemmas.Bool.Decides.{nat_tests}
-use Rattle.std.proofs.lemmas.List.{reverse-append}
-use Rattle.mc_model.specs.synod.Lists.{In}
 use Rattle.mc_model.specs.synod.Packet.{Packet}
 use Rattle.mc_model.specs.node.Setup.{Setup}
 use Rattle.mc_model.specs.cluster.Steps.{Cluster, setup_of}
@@ -64,7 +62,7 @@ sent_both behind sent [] second one other = other
 sent_both behind sent (done ∷ first) second one other = (
   one.0,
   sent_both behind (reverse done.sent ++ sent) first second one.1
-  (subst (λ (ps : List Packet). WereSent behind ps second) (sym (packets_more sent done.sent (sent_by first) done.sent refl)) other)
+      (subst (λ (ps : List Packet). WereSent behind ps second) (sym (packets_more sent done.sent (sent_by first) done.sent refl)) other),
 )
 
 sent_cut : (behind : ℕ) (sent : List Packet) (first second : List Done) → WereSent behind sent (first ++ second) →

@@ -8,20 +8,16 @@ use Rattle.std.proofs.lemmas.List.{reverse-append}
 use Rattle.mc_model.specs.synod.Lists.{In}
 use Rattle.mc_model.specs.synod.Packet.{Packet}
 use Rattle.mc_model.specs.node.Actor.{Request}
-use Rattle.mc_model.specs.node.Input.{Arrival, Crash, Delivery, Grant, Input, Refusal, Response, Restart, Tick}
-use Rattle.mc_model.specs.node.Outputs.{HasNumber, Outputs}
-use Rattle.mc_model.specs.node.Setup.{Setup}
+use Rattle.mc_model.specs.node.Input.{Crash, Delivery, Grant, Input, Response, Restart, Tick}
+use Rattle.mc_model.specs.node.Outputs.{Outputs}
 use Rattle.mc_model.specs.cluster.Steps.{Cluster, setup_of}
 use Rattle.mc_model.specs.cluster.World.{changed}
-use Rattle.mc_parts.proofs.Membership.{in_either, of_only}
+use Rattle.mc_parts.proofs.Membership.{in_either}
 use Rattle.mc_laws.proofs.invariant.Growth.{changed_here}
-use Rattle.node_model.specs.Attempts.{grant_refusal}
-use Rattle.node_model.specs.Granted.{is_open, known_slot}
-use Rattle.node_model.specs.Kept.{Kept, message_at}
-use Rattle.node_model.specs.Outputs.{Stepped}
-use Rattle.node_model.specs.Stepped.{stepped}
-use Rattle.node_laws.specs.Clusters.{KeptCluster, MayHappen, NodeInput, WasSentBefore, comes_to, kept_next, kept_reached, step_at}
-use Rattle.node_laws.specs.Runs.{IsGrantable, IsOneOf, IsOpen, IsUpFor, MayCome}
+use Rattle.node_model.specs.Granted.{known_slot}
+use Rattle.node_model.specs.Kept.{Kept}
+use Rattle.node_laws.specs.Clusters.{KeptCluster, MayHappen, NodeInput, WasSentBefore, comes_to, kept_reached, step_at}
+use Rattle.node_laws.specs.Runs.{IsUpFor, MayCome}
 use Rattle.node_laws.proofs.cluster.Sources.{in_cut}
 use Rattle.delivery.specs.Kept.{outcome_kept}
 use Rattle.delivery.specs.Targets.{is_up}
@@ -29,14 +25,12 @@ use Rattle.desk.specs.Arrivals.{judged_as, requested}
 use Rattle.node_core.specs.Attempting.{reason_of}
 use Rattle.node_core.specs.Stops.{is_after}
 use Rattle.pdu_tables.specs.declared.status.Status.{Status}
-use Rattle.world.specs.declared.fault.WorldFault.{WorldFault}
 use Rattle.world.specs.declared.fault.WorldFault.TheVariants as faults
-use Rattle.world.specs.declared.given.Given.{Given}
 use Rattle.world.specs.declared.step.Step.{Step}
 use Rattle.world.specs.declared.step.Step.TheVariants as steps
-use Rattle.world.specs.Runs.{Comes, IsGiven, absent, away, down, given_out, node_at, or_else, refusal_of, last_incarnation, spent, unsent}
-use Rattle.world_runs.specs.Traces.{Answer, Reaches}
-use Rattle.journal_laws.specs.Journals.{Done, Entry, IsJournal, IsInRange, HasItsNumber, IsOwnRun, IsOwnStep, RunsOn, Unfinished, CameAsSent, WereSent}
+use Rattle.world.specs.Runs.{Comes, IsGiven, absent, away, node_at, or_else, refusal_of, last_incarnation, unsent}
+use Rattle.world_runs.specs.Traces.{Reaches}
+use Rattle.journal_laws.specs.Journals.{Done, Entry, IsJournal, IsInRange, HasItsNumber, IsOwnRun, RunsOn, Unfinished, CameAsSent, WereSent}
 use Rattle.journal_laws.specs.Journals.{comes_by, done_in, entries_at, outputs_done, steps_for, stop_of}
 
 -- ---- what comes by a step
@@ -232,7 +226,7 @@ module _ (cluster : Cluster) (few : cluster.nodes ≤ 9) (behind : List Packet) 
           not_refused cluster (length behind) w done.step done.packet first.input first.comes one first.up first.may sent.0,
           comes_so cluster (length behind) w done.step done.packet first.input first.comes sent.0,
           given_so done (step_at cluster w next).outputs first.gives first.count,
-          on.reaches
+          on.reaches,
         );
         may = on.may;
         kept = on.kept;

@@ -1,13 +1,13 @@
 -- What a journal tells, as a run of its cluster.
-use Rattle.std.proofs.Common.{◌≡◌, ℕ, Bool, true, false, List, [], ◌∷◌, ◌++◌, Option, Some, None, Ok, refl, sym, ap, subst, ◌∙◌, inl, inr}
-use Rattle.std.specs.Prelude.{map, reverse, if◌then◌else◌}
+use Rattle.std.proofs.Common.{◌≡◌, ℕ, Bool, true, false, List, [], ◌∷◌, ◌++◌, Option, Some, None, Ok, refl, sym, ap, subst, ◌∙◌}
+use Rattle.std.specs.Prelude.{map, if◌then◌else◌}
 use Rattle.std.proofs.lemmas.List.{append-nil}
 use Rattle.mc_model.specs.message.Decree.{Decree, Delivered, Final}
 use Rattle.mc_model.specs.synod.Lists.{In}
 use Rattle.mc_model.specs.synod.Packet.{Packet, Slot, slot_of}
 use Rattle.mc_model.specs.node.Input.{Crash}
 use Rattle.mc_model.specs.node.Outputs.{Outputs}
-use Rattle.mc_model.specs.node.Replies.{Accepted, Answer as Told, Shown, Unknown}
+use Rattle.mc_model.specs.node.Replies.{Answer as Told, Shown, Unknown}
 use Rattle.mc_model.specs.node.Setup.{Setup}
 use Rattle.mc_model.specs.cluster.Steps.{Cluster, setup_of}
 use Rattle.mc_parts.proofs.Membership.{in_left}
@@ -15,15 +15,14 @@ use Rattle.node_model.specs.Kept.{Kept}
 use Rattle.node_model.specs.Outputs.{nothing}
 use Rattle.node_model.specs.Stepped.{stepped, stepped_down, stepped_up}
 use Rattle.node_laws.specs.Chosen.{WasVotedFor}
-use Rattle.node_laws.specs.Clusters.{IsDeliveredBy, MayHappen, NodeInput, StatesFinal, comes_to, kept_reached, outputs_at, step_at}
+use Rattle.node_laws.specs.Clusters.{MayHappen, NodeInput, StatesFinal, kept_reached, outputs_at, step_at}
 use Rattle.node_laws.proofs.cluster.Delivered.{delivered}
 use Rattle.node_laws.proofs.cluster.Sources.{may_until}
 use Rattle.delivery.specs.declared.outcome.Outcome.TheVariants as outcomes
 use Rattle.node_core.specs.Stops.{is_after}
 use Rattle.world.specs.declared.given.Given.{Given}
-use Rattle.world.specs.declared.step.Step.{Step}
 use Rattle.world.specs.declared.step.Step.TheVariants as steps
-use Rattle.world.specs.Runs.{Comes, IsGiven, given_out, node_at}
+use Rattle.world.specs.Runs.{IsGiven, given_out, node_at}
 use Rattle.world_runs.specs.Traces.{Answer, Event, Reaches, Tried, answers_in, events_of}
 use Rattle.world_runs.specs.Traces.{IsAnsweredLater as IsEventAnswered, StandsOnAnAttempt as EventsStand}
 use Rattle.world_runs.proofs.Asking.{accepted_are_known, later_queries_are_told}
@@ -31,9 +30,9 @@ use Rattle.world_runs.proofs.Events.{ReachesBy, goes_on_by, reached_by}
 use Rattle.world_runs.proofs.Standing.{deliveries_stand}
 use Rattle.world_runs.proofs.Tracing.{grants_none, one_fate, states_given, states_nothing}
 use Rattle.world_runs.proofs.Voting.{chosen_before}
-use Rattle.journal_laws.specs.Journals.{Done, Entry, IsJournal, RunsOn, Unfinished, answers_given, done_in, events_done, packets_sent, steps_done, steps_for}
+use Rattle.journal_laws.specs.Journals.{Done, Entry, IsJournal, RunsOn, Unfinished, answers_given, done_in, steps_done, steps_for}
 use Rattle.journal_laws.specs.Telling.{AcceptedAreKnown, AreChosen, DeliveriesStand, DeliveriesStandInTheRun, GrantNoneAfterAFate, IsAnsweredLater}
-use Rattle.journal_laws.specs.Telling.{LaterQueriesAreTold, StandsInTheRun, StandsOnAnAttempt, TellOneFate, told_by}
+use Rattle.journal_laws.specs.Telling.{LaterQueriesAreTold, StandsOnAnAttempt, TellOneFate, told_by}
 use Rattle.journal_laws.specs.Joining.{IsCut}
 use Rattle.journal_laws.proofs.Entries.{IsNoStop, before_it, done_among, done_at, events_tried, found, front_of, in_made, lives_by, lives_tried, tried, tried_among, tried_in}
 use Rattle.journal_laws.proofs.Joining.{cut}

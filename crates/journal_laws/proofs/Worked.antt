@@ -1,20 +1,19 @@
 -- The worked journal is one.
-use Rattle.std.proofs.Common.{◌≡◌, ℕ, ◌≤◌, true, List, [], ◌∷◌, ◌++◌, length, None, Some, refl, sym, ap, subst, ◌∙◌, inl, inr, arith}
+use Rattle.std.proofs.Common.{◌≡◌, ℕ, true, List, [], ◌∷◌, refl, sym, ap, subst, inl, inr, arith}
 use Rattle.mc_model.specs.synod.Packet.{Packet}
 use Rattle.mc_model.specs.synod.Lists.{In}
 use Rattle.mc_model.specs.node.Input.{Crash, Delivery, Input, Restart}
-use Rattle.mc_model.specs.node.Outputs.{HasNumber, Outputs}
+use Rattle.mc_model.specs.node.Outputs.{Outputs}
 use Rattle.mc_model.specs.node.Setup.{Setup}
 use Rattle.mc_model.specs.cluster.Steps.{setup_of}
 use Rattle.node_model.specs.Kept.{Kept}
 use Rattle.node_model.specs.Outputs.{nothing}
-use Rattle.node_model.specs.Recorded.{has_record}
 use Rattle.node_model.specs.Stepped.{stepped}
 use Rattle.node_laws.specs.Clusters.{MayHappen, kept_reached}
 use Rattle.node_laws.specs.Runs.{IsOneOf}
 use Rattle.world.specs.declared.given.Given.{Given}
 use Rattle.world.specs.Runs.{given_out, node_at}
-use Rattle.journal_laws.specs.Journals.{Done, Entry, IsInRange, IsJournal, IsOwnRun, WereSent, done_in, entries_at, outputs_done}
+use Rattle.journal_laws.specs.Journals.{Entry, IsInRange, IsJournal, IsOwnRun, WereSent, done_in, entries_at}
 use Rattle.journal_laws.specs.Example.{IsQuiet, alone, before, prepare, promise, propose, refused, worked}
 
 abbrev setup : Setup
@@ -50,7 +49,7 @@ happens = (
   refl,
   (refl, record { serial = record { least = omega arith; most = omega arith }; id_is = refl; takes = record { node = refl; incarnation = refl; expiry = omega arith; schedule = omega arith } }),
   record {},
-  (one_of, refl, record {}, record {}, record {})
+  (one_of, refl, record {}, record {}, record {}),
 )
 
 module _ (quiet : ℕ → Given) (is : IsQuiet quiet) where
@@ -66,10 +65,10 @@ module _ (quiet : ℕ → Given) (is : IsQuiet quiet) where
         record { input = Crash propose true; comes = refl; up = refl; may = (refl, omega arith); gives = gave 0 []; count = (is 0).1 },
         (
           record { input = Restart 0; comes = refl; up = record {}; may = omega arith; gives = gave 0 []; count = (is 0).1 },
-          (record { input = Delivery prepare; comes = refl; up = refl; may = record {}; gives = gave 1 (refused ∷ []); count = (is 1).1 }, refl)
-        )
-      )
-    )
+          (record { input = Delivery prepare; comes = refl; up = refl; may = record {}; gives = gave 1 (refused ∷ []); count = (is 1).1 }, refl),
+        ),
+      ),
+    ),
   )
 
   were_sent : WereSent 0 (kept_reached alone before).packets (done_in (worked quiet))
@@ -79,9 +78,9 @@ module _ (quiet : ℕ → Given) (is : IsQuiet quiet) where
       (omega arith, record { newer = []; older = prepare ∷ []; split = refl; number_is = refl }),
       (
         (omega arith, record { newer = []; older = promise ∷ prepare ∷ []; split = refl; number_is = refl }),
-        (record {}, ((omega arith, record { newer = propose ∷ promise ∷ []; older = []; split = refl; number_is = refl }), record {}))
-      )
-    )
+        (record {}, ((omega arith, record { newer = propose ∷ promise ∷ []; older = []; split = refl; number_is = refl }), record {})),
+      ),
+    ),
   )
 
   in_range : (entry : Entry) → In entry (worked quiet) → IsInRange alone (node_at entry.done.step)

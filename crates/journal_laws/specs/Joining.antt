@@ -1,5 +1,5 @@
 -- Journals one after the other (own).
-use Rattle.std.specs.Prelude.{ℕ, List, ◌++◌}
+use Rattle.std.specs.Prelude.{ℕ, List}
 use Rattle.mc_model.specs.synod.Packet.{Packet}
 use Rattle.mc_model.specs.cluster.Steps.{Cluster}
 use Rattle.node_model.specs.Kept.{Kept}
