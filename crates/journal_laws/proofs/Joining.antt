@@ -33,19 +33,20 @@ flat_appended f (x ∷ xs) ys = ap (λ (zs : List _). f x ++ zs) (flat_appended 
 pub done_both : (first second : List Entry) → done_in (first ++ second) ≡ done_in first ++ done_in second
 done_both first second = flat_appended (λ entry. steps_for entry.done entry.unfinished) first second
 
-at_both : (node : ℕ) (first second : List Entry) → done_in (entries_at node (first ++ second)) ≡ done_in (entries_at node first) ++ done_in (entries_at node second)
+pub at_both : (node : ℕ) (first second : List Entry) →
+    done_in (entries_at node (first ++ second)) ≡ done_in (entries_at node first) ++ done_in (entries_at node second)
 at_both node first second =
     ap done_in (filter_appended (λ entry. node_at entry.done.step == node) first second) ∙ done_both (entries_at node first) (entries_at node second)
 
 -- ---- runs of one node
 
 module _ (setup : Setup) where
-  own_both : (k middle last : Kept) (first second : List Done) → IsOwnRun setup k first middle → IsOwnRun setup middle second last →
+  pub own_both : (k middle last : Kept) (first second : List Done) → IsOwnRun setup k first middle → IsOwnRun setup middle second last →
       IsOwnRun setup k (first ++ second) last
   own_both k middle last [] second same own = subst (λ (from : Kept). IsOwnRun setup from second last) same own
   own_both k middle last (done ∷ first) second one own = (one.0, own_both (stepped setup k one.0.input).kept middle last first second one.1 own)
 
-  own_cut : (k last : Kept) (first second : List Done) → IsOwnRun setup k (first ++ second) last →
+  pub own_cut : (k last : Kept) (first second : List Done) → IsOwnRun setup k (first ++ second) last →
       (middle : Kept) × IsOwnRun setup k first middle × IsOwnRun setup middle second last
   own_cut k last [] second own = (k, refl, own)
   own_cut k last (done ∷ first) second own =
@@ -53,11 +54,11 @@ module _ (setup : Setup) where
 
 -- ---- packets
 
-abbrev sent_by : List Done → List Packet
+abbrev pub sent_by : List Done → List Packet
 sent_by taken = flat_map (λ done. done.sent) taken
 
-sent_both : (behind : ℕ) (sent : List Packet) (first second : List Done) → WereSent behind sent first → WereSent behind (reverse (sent_by first) ++ sent) second →
-    WereSent behind sent (first ++ second)
+pub sent_both : (behind : ℕ) (sent : List Packet) (first second : List Done) → WereSent behind sent first →
+    WereSent behind (reverse (sent_by first) ++ sent) second → WereSent behind sent (first ++ second)
 sent_both behind sent [] second one other = other
 sent_both behind sent (done ∷ first) second one other = (
   one.0,
@@ -65,7 +66,7 @@ sent_both behind sent (done ∷ first) second one other = (
       (subst (λ (ps : List Packet). WereSent behind ps second) (sym (packets_more sent done.sent (sent_by first) done.sent refl)) other),
 )
 
-sent_cut : (behind : ℕ) (sent : List Packet) (first second : List Done) → WereSent behind sent (first ++ second) →
+pub sent_cut : (behind : ℕ) (sent : List Packet) (first second : List Done) → WereSent behind sent (first ++ second) →
     WereSent behind sent first × WereSent behind (reverse (sent_by first) ++ sent) second
 sent_cut behind sent [] second were = (record {}, were)
 sent_cut behind sent (done ∷ first) second were =
@@ -76,7 +77,8 @@ sent_cut behind sent (done ∷ first) second were =
 
 module _ (cluster : Cluster) (behind : List Packet) (inputs : List NodeInput) where
   pub both : (first second : List Entry) (middles ends : ℕ → Kept) → IsJournal cluster behind inputs first middles →
-      (way : RunsOn cluster behind inputs first middles) → IsJournal cluster behind way.last second ends → IsJournal cluster behind inputs (first ++ second) ends
+      (way : RunsOn cluster behind inputs first middles) → IsJournal cluster behind way.last second ends →
+      IsJournal cluster behind inputs (first ++ second) ends
   both first second middles ends one way other = record {
     few = one.few;
     may = one.may;
@@ -85,7 +87,8 @@ module _ (cluster : Cluster) (behind : List Packet) (inputs : List NodeInput) wh
         subst (λ (ds : List Done). IsOwnRun (setup_of cluster node) ((kept_reached cluster inputs).kept node) ds (ends node)) (sym (at_both node first second))
         (own_both (setup_of cluster node) ((kept_reached cluster inputs).kept node) (middles node) (ends node) (done_in (entries_at node first))
         (done_in (entries_at node second)) (one.own node within)
-        (subst (λ (k : Kept). IsOwnRun (setup_of cluster node) k (done_in (entries_at node second)) (ends node)) (way.kept node within) (other.own node within)));
+        (subst (λ (k : Kept). IsOwnRun (setup_of cluster node) k (done_in (entries_at node second)) (ends node)) (way.kept node within)
+        (other.own node within)));
     sent =
         subst (λ (ds : List Done). WereSent (length behind) (kept_reached cluster inputs).packets ds) (sym (done_both first second))
         (sent_both (length behind) (kept_reached cluster inputs).packets (done_in first) (done_in second) one.sent
@@ -100,7 +103,8 @@ module _ (cluster : Cluster) (behind : List Packet) (inputs : List NodeInput) wh
         (middle : Kept) × IsOwnRun (setup_of cluster node) ((kept_reached cluster inputs).kept node) (done_in (entries_at node first)) middle
         × IsOwnRun (setup_of cluster node) middle (done_in (entries_at node second)) (ends node)
     own_parts node one =
-        own_cut (setup_of cluster node) ((kept_reached cluster inputs).kept node) (ends node) (done_in (entries_at node first)) (done_in (entries_at node second))
+        own_cut (setup_of cluster node) ((kept_reached cluster inputs).kept node) (ends node) (done_in (entries_at node first))
+        (done_in (entries_at node second))
         (subst (λ (ds : List Done). IsOwnRun (setup_of cluster node) ((kept_reached cluster inputs).kept node) ds (ends node)) (at_both node first second)
         (is.own node one))
 

@@ -1,5 +1,7 @@
 pub mod Running
 pub mod Joining
+pub mod Listing
+pub mod OldStores
 pub mod Entries
 pub mod Telling
 pub mod Worked

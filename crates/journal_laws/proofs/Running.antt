@@ -148,7 +148,7 @@ module _ (cluster : Cluster) (behind : ℕ) (w : KeptCluster) where
 
 -- ---- steps of all nodes
 
-abbrev of_node : ℕ → List Done → List Done
+abbrev pub of_node : ℕ → List Done → List Done
 of_node node taken = filter (λ done. node_at done.step == node) taken
 
 given_so : (done : Done) (outputs : Outputs) → outputs ≡ outputs_done done → done.given.packets ≡ length done.sent → IsGiven done.given outputs
@@ -214,8 +214,13 @@ module _ (cluster : Cluster) (few : cluster.nodes ≤ 9) (behind : List Packet) 
       let first = mine.0 in
       let next = comes_to node first.input in
       let gave : (step_at cluster w next).outputs.packets ≡ done.sent = ap (λ (o : Outputs). o.packets) first.gives in
-      let on = goes_on (next ∷ inputs) later
-      (record { least = one.0; most = one.1; few = few }, first.up, first.may, packet_sent cluster (length behind) w done.step done.packet first.input first.comes sent.0, may)
+      let on = goes_on (next ∷ inputs) later (
+        record { least = one.0; most = one.1; few = few },
+        first.up,
+        first.may,
+        packet_sent cluster (length behind) w done.step done.packet first.input first.comes sent.0,
+        may,
+      )
       (λ other among. nodes other (inr among))
       (own_later w.kept done later own (step_at cluster w next).kept mine.1)
       (subst (λ (ps : List Packet). WereSent (length behind) (reverse ps ++ w.packets) later) (sym gave) sent.1) in
@@ -253,7 +258,7 @@ own_steps_for node done None later false test = ap (λ (b : Bool). cond b (done 
 own_steps_for node done (Some save) later true test = twice node done save later true test
 own_steps_for node done (Some save) later false test = twice node done save later false test
 
-own_steps : (node : ℕ) (entries : List Entry) → of_node node (done_in entries) ≡ done_in (entries_at node entries)
+pub own_steps : (node : ℕ) (entries : List Entry) → of_node node (done_in entries) ≡ done_in (entries_at node entries)
 own_steps node [] = refl
 own_steps node (entry ∷ entries) = by_test (node_at entry.done.step == node) refl (own_steps node entries)
   where

@@ -34,7 +34,8 @@ use Rattle.journal_laws.specs.Journals.{Done, Entry, IsJournal, RunsOn, Unfinish
 use Rattle.journal_laws.specs.Telling.{AcceptedAreKnown, AreChosen, DeliveriesStand, DeliveriesStandInTheRun, GrantNoneAfterAFate, IsAnsweredLater}
 use Rattle.journal_laws.specs.Telling.{LaterQueriesAreTold, StandsOnAnAttempt, TellOneFate, told_by}
 use Rattle.journal_laws.specs.Joining.{IsCut}
-use Rattle.journal_laws.proofs.Entries.{IsNoStop, before_it, done_among, done_at, events_tried, found, front_of, in_made, lives_by, lives_tried, tried, tried_among, tried_in}
+use Rattle.journal_laws.proofs.Entries.{IsNoStop, before_it, done_among, done_at, events_tried, found, front_of, in_made, lives_by, lives_tried}
+use Rattle.journal_laws.proofs.Entries.{tried, tried_among, tried_in}
 use Rattle.journal_laws.proofs.Joining.{cut}
 use Rattle.journal_laws.proofs.Running.{runs_on}
 
@@ -171,7 +172,13 @@ module _ (cluster : Cluster) (behind : List Packet) (inputs : List NodeInput) (e
     node = it.node;
     ticket = it.ticket;
     asking = tried it.asking.done;
-    waits = record { account = it.account; request = it.request; given = it.asking.done.given; is = λ i. Tried (it.asked i) (Ok it.asking.done.given); under = it.under };
+    waits = record {
+      account = it.account;
+      request = it.request;
+      given = it.asking.done.given;
+      is = λ i. Tried (it.asked i) (Ok it.asking.done.given);
+      under = it.under;
+    };
     middle = tried_in it.middle ++ map tried (before_it it.replying);
     lives = lives_tried it.node it.middle it.replying it.lives;
     step = it.replying.done.step;
@@ -182,7 +189,8 @@ module _ (cluster : Cluster) (behind : List Packet) (inputs : List NodeInput) (e
     split =
         ap tried_in it.split
         ∙ done_at tried older it.asking (it.middle ++ it.replying ∷ it.newer)
-        ∙ ap (λ (events : List Event). (tried_in older ++ map tried (before_it it.asking)) ++ tried it.asking.done ∷ events) (done_at tried it.middle it.replying it.newer);
+        ∙ ap (λ (events : List Event). (tried_in older ++ map tried (before_it it.asking)) ++ tried it.asking.done ∷ events)
+        (done_at tried it.middle it.replying it.newer);
   }
 
   told_before : (older : List Entry) (asking telling : Entry) → In telling older → In (tried telling.done) (tried_in older ++ map tried (before_it asking))

@@ -2,15 +2,17 @@
 use Rattle.std.proofs.Common.{◌≡◌, ℕ, true, List, [], ◌∷◌, refl, sym, ap, subst, inl, inr, arith}
 use Rattle.mc_model.specs.synod.Packet.{Packet}
 use Rattle.mc_model.specs.synod.Lists.{In}
-use Rattle.mc_model.specs.node.Input.{Crash, Delivery, Input, Restart}
+use Rattle.mc_model.specs.node.Input.{Crash, Delivery, Input, Restart, Tick}
 use Rattle.mc_model.specs.node.Outputs.{Outputs}
 use Rattle.mc_model.specs.node.Setup.{Setup}
 use Rattle.mc_model.specs.cluster.Steps.{setup_of}
+use Rattle.mc_parts.specs.FirstMessage.{first_id, message, midnight}
 use Rattle.node_model.specs.Kept.{Kept}
 use Rattle.node_model.specs.Outputs.{nothing}
 use Rattle.node_model.specs.Stepped.{stepped}
-use Rattle.node_laws.specs.Clusters.{MayHappen, kept_reached}
-use Rattle.node_laws.specs.Runs.{IsOneOf}
+use Rattle.node_laws.specs.Clusters.{MayHappen, comes_to, kept_reached}
+use Rattle.node_laws.specs.Examples.{none_up}
+use Rattle.node_laws.specs.Runs.{IsNextMessage, IsOneOf}
 use Rattle.world.specs.declared.given.Given.{Given}
 use Rattle.world.specs.Runs.{given_out, node_at}
 use Rattle.journal_laws.specs.Journals.{Entry, IsInRange, IsJournal, IsOwnRun, WereSent, done_in, entries_at}
@@ -21,6 +23,10 @@ setup = setup_of alone 1
 
 abbrev then : Kept → Input → Kept
 then k input = (stepped setup k input).kept
+
+-- before the submit_sm comes
+abbrev ticked : Kept
+ticked = (kept_reached alone (comes_to 1 (Tick midnight none_up) ∷ [])).kept 1
 
 abbrev at_first : Kept
 at_first = (kept_reached alone before).kept 1
@@ -43,11 +49,18 @@ at_last = then anew (Delivery prepare)
 one_of : IsOneOf setup
 one_of = record { least = omega arith; most = omega arith; few = omega arith }
 
+next_message : IsNextMessage setup ticked first_id message
+next_message = record {
+  serial = record { least = omega arith; most = omega arith };
+  id_is = refl;
+  takes = record { node = refl; incarnation = refl; expiry = omega arith; schedule = omega arith };
+}
+
 happens : MayHappen alone before
 happens = (
   one_of,
   refl,
-  (refl, record { serial = record { least = omega arith; most = omega arith }; id_is = refl; takes = record { node = refl; incarnation = refl; expiry = omega arith; schedule = omega arith } }),
+  (refl, next_message),
   record {},
   (one_of, refl, record {}, record {}, record {}),
 )

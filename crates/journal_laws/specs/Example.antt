@@ -14,6 +14,7 @@ use Rattle.world.specs.declared.given.Given.{Given}
 use Rattle.world.specs.declared.step.Step.{Step}
 use Rattle.world.specs.declared.step.Step.TheVariants as steps
 use Rattle.world.specs.Runs.{given_out}
+use Rattle.journal_laws.specs.Joining.{plainly}
 use Rattle.journal_laws.specs.Journals.{Done, Entry}
 
 abbrev pub alone : Cluster
@@ -41,9 +42,6 @@ IsQuiet quiet = (count : ℕ) → (given_out (quiet count) ≡ nothing) × ((qui
 
 abbrev pub taking : (ℕ → Given) → Step → Packet → List Packet → Done
 taking quiet step packet sent = record { step = step; packet = Some packet; given = quiet (length sent); sent = sent }
-
-abbrev pub plainly : Done → Entry
-plainly done = record { done = done; unfinished = None }
 
 -- The node promises, and proposes; it stops as it has saved its vote, and starts anew; and the Prepare, which comes once more, is refused.
 abbrev pub worked : (ℕ → Given) → List Entry

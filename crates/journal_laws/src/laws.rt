@@ -1,14 +1,17 @@
 //! Laws of journals: nothing to call, but to cite.
 
-ghost use Rattle.std.specs.Prelude.{ℕ, [], ◌++◌, List};
+ghost use Rattle.std.specs.Prelude.{ℕ, ◌≤◌, Bool, [], ◌++◌, List, Ok, map};
 ghost use Rattle.mc_model.specs.synod.Packet.{Packet};
 ghost use Rattle.mc_model.specs.cluster.Steps.{Cluster};
 ghost use Rattle.node_model.specs.Kept.{Kept};
-ghost use Rattle.node_laws.specs.Clusters.{NodeInput, kept_reached};
+ghost use Rattle.node_laws.specs.Clusters.{MayHappen, NodeInput, kept_reached};
 ghost use Rattle.journal_laws.specs.Journals.{Entry, IsJournal, RunsOn};
 ghost use Rattle.world.specs.declared.given.Given.{Given};
+ghost use Rattle.world.specs.declared.step.Step.{Step};
+ghost use Rattle.world_runs.specs.Traces.{Reaches};
 ghost use Rattle.journal_laws.specs.Example.{IsQuiet, alone, before, worked};
-ghost use Rattle.journal_laws.specs.Joining.{IsCut};
+ghost use Rattle.journal_laws.specs.Joining.{IsCut, IsListed};
+ghost use Rattle.journal_laws.specs.OldStores.{IsJournalOver, openings};
 ghost use Rattle.journal_laws.specs.Telling.{
   AcceptedAreKnown,
   AreChosen,
@@ -34,6 +37,20 @@ pub fn a_journal_goes_on()
         IsJournal cluster behind way.last second ends → IsJournal cluster behind inputs (first ++ second) ends }
     ensures cut { (cluster : Cluster) (behind : List Packet) (inputs : List NodeInput) (first second : List Entry) (ends : ℕ → Kept) →
         IsJournal cluster behind inputs (first ++ second) ends → IsCut cluster behind inputs first second ends }
+{}
+
+/// And a journal of nodes that opened over stores which a run of the same nodes left, or over new ones, goes on with that run: behind it each node whose
+/// store was not new starts anew, once, and the packets of the journal are numbered on.
+pub fn a_journal_goes_on_over_old_stores()
+    ensures { (cluster : Cluster) (inputs : List NodeInput) (fresh : ℕ → Bool) (lost : ℕ → ℕ) (entries : List Entry) (ends : ℕ → Kept) →
+        IsJournalOver cluster inputs fresh lost entries ends →
+        IsJournal cluster (kept_reached cluster inputs).packets (openings fresh lost cluster.nodes ++ inputs) entries ends }
+{}
+
+/// And each run of a cluster is a journal, of its steps with what they gave: so a journal is no more and no less than a run.
+pub fn a_run_is_a_journal()
+    ensures { (cluster : Cluster) (behind : List Packet) (inputs last : List NodeInput) (taken : List Step) (givens : List Given) → cluster.nodes ≤ 9 →
+        MayHappen cluster last → Reaches cluster behind inputs taken (map Ok givens) last → IsListed cluster behind inputs taken givens last }
 {}
 
 /// So no two final states that its entries tell of one message differ, whichever nodes tell them.
