@@ -32,11 +32,12 @@ use Rattle.world_runs.proofs.Tracing.{grants_none, one_fate, states_given, state
 use Rattle.world_runs.proofs.Voting.{chosen_before}
 use Rattle.journal_laws.specs.Journals.{Done, Entry, IsJournal, RunsOn, Unfinished, answers_given, done_in, steps_done, steps_for}
 use Rattle.journal_laws.specs.Telling.{AcceptedAreKnown, AreChosen, DeliveriesStand, DeliveriesStandInTheRun, GrantNoneAfterAFate, IsAnsweredLater}
-use Rattle.journal_laws.specs.Telling.{LaterQueriesAreTold, StandsOnAnAttempt, TellOneFate, told_by}
+use Rattle.journal_laws.specs.Telling.{IdsAreNotRefusedAtOnce, LaterQueriesAreTold, StandsOnAnAttempt, TellOneFate, told_by}
 use Rattle.journal_laws.specs.Joining.{IsCut}
 use Rattle.journal_laws.proofs.Entries.{IsNoStop, before_it, done_among, done_at, events_tried, found, front_of, in_made, lives_by, lives_tried}
 use Rattle.journal_laws.proofs.Entries.{tried, tried_among, tried_in}
 use Rattle.journal_laws.proofs.Joining.{cut}
+use Rattle.journal_laws.proofs.Refusing.{ids_not_refused}
 use Rattle.journal_laws.proofs.Running.{runs_on}
 
 abbrev answer : Done → Answer
@@ -200,6 +201,9 @@ module _ (cluster : Cluster) (behind : List Packet) (inputs : List NodeInput) (e
   queries_told older telling id chain final among says it =
       later_queries_are_told cluster inputs (tried_in entries) way.last reaches way.may (tried_in older ++ map tried (before_it it.asking)) (tried telling.done)
       id chain final (told_before older it.asking telling among) says (answered_later older id (Shown chain) it)
+
+  pub ids_known : IdsAreNotRefusedAtOnce entries
+  ids_known = ids_not_refused cluster inputs entries way.last reaches
 
   pub accepted_known : AcceptedAreKnown entries
   accepted_known older accepting taken id among accepts it =

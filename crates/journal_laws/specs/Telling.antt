@@ -12,6 +12,9 @@ use Rattle.node_laws.specs.Chosen.{WasVotedFor}
 use Rattle.node_laws.specs.Clusters.{GrantsOut, IsDeliveredBy, NodeInput, StatesFinal}
 use Rattle.delivery.specs.declared.outcome.Outcome.TheVariants as outcomes
 use Rattle.desk.specs.declared.request.Request.{Request}
+use Rattle.desk.specs.declared.request.Request.TheVariants as asked
+use Rattle.mc_types.specs.Texts.{id_in}
+use Rattle.pdu_tables.specs.declared.status.Status.TheVariants as statuses
 use Rattle.world.specs.declared.step.Step.TheVariants as steps
 use Rattle.world.specs.Runs.{given_out, node_at}
 use Rattle.journal_laws.specs.Journals.{Entry, RunsOn, packets_sent}
@@ -126,3 +129,15 @@ abbrev pub AcceptedAreKnown : List Entry → Type 0
 AcceptedAreKnown entries =
     (older : List Entry) (accepting : Entry) (taken id : ℕ) → In accepting older → IsRepliedTo accepting taken id Accepted →
     IsAnsweredLater entries older id Unknown → ⊥
+
+-- a query_sm or a cancel_sm names a message by its id (SMPP 3.4, 4.8.1 and 4.9.1)
+abbrev pub Names : Request → ℕ → Type 0
+Names (asked.Submit message target) id = ⊥
+Names (asked.Ask query) id = id_in query.message_id ≡ Some id
+Names (asked.Cancel cancel) id = id_in cancel.message_id ≡ Some id
+
+-- Nor is one that names a message by its id refused at once as one for a message that there is not (ESME_RINVMSGID: SMPP 3.4, 5.1.3), whatever waits.
+abbrev pub IdsAreNotRefusedAtOnce : List Entry → Type 0
+IdsAreNotRefusedAtOnce entries =
+    (entry : Entry) (node : ℕ) (account : List ℕ) (request : Request) (id : ℕ) → In entry entries →
+    entry.done.step ≡ steps.Request node account request → Names request id → entry.done.given.refused ≡ Some statuses.InvalidMessageId → ⊥

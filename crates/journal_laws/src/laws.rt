@@ -18,6 +18,7 @@ ghost use Rattle.journal_laws.specs.Telling.{
   DeliveriesStand,
   DeliveriesStandInTheRun,
   GrantNoneAfterAFate,
+  IdsAreNotRefusedAtOnce,
   LaterQueriesAreTold,
   TellOneFate,
 };
@@ -82,12 +83,15 @@ pub fn a_journal_tells_what_was_chosen()
 {}
 
 /// And a query_sm whose entry stands behind one that told a final state of its message, and that is answered by ESME_ROK in the same life of its node, is
-/// told that state; and no request whose entry stands behind ESME_ROK to the submit_sm of its message is answered so that there is no such message.
+/// told that state; and no request whose entry stands behind ESME_ROK to the submit_sm of its message is answered so that there is no such message,
+/// nor is any that names a message by its id refused so at once.
 pub fn a_journal_answers_by_what_it_told()
     ensures told { (cluster : Cluster) (behind : List Packet) (inputs : List NodeInput) (entries : List Entry) (ends : ℕ → Kept) →
         IsJournal cluster behind inputs entries ends → LaterQueriesAreTold entries }
     ensures known { (cluster : Cluster) (behind : List Packet) (inputs : List NodeInput) (entries : List Entry) (ends : ℕ → Kept) →
         IsJournal cluster behind inputs entries ends → AcceptedAreKnown entries }
+    ensures at_once { (cluster : Cluster) (behind : List Packet) (inputs : List NodeInput) (entries : List Entry) (ends : ℕ → Kept) →
+        IsJournal cluster behind inputs entries ends → IdsAreNotRefusedAtOnce entries }
 {}
 
 /// Such journals are: a node promises and proposes, stops as it has saved its vote, starts anew, and refuses the Prepare that comes once more. What it gives
