@@ -1,0 +1,101 @@
+//! Laws of journals: nothing to call, but to cite.
+
+ghost use Rattle.std.specs.Prelude.{ℕ, ◌≤◌, Bool, [], ◌++◌, List, Ok, map};
+ghost use Rattle.mc_model.specs.synod.Packet.{Packet};
+ghost use Rattle.mc_model.specs.cluster.Steps.{Cluster};
+ghost use Rattle.node_model.specs.Kept.{Kept};
+ghost use Rattle.node_laws.specs.Clusters.{MayHappen, NodeInput, kept_reached};
+ghost use Rattle.journal_laws.specs.Journals.{Entry, IsJournal, RunsOn};
+ghost use Rattle.world.specs.declared.given.Given.{Given};
+ghost use Rattle.world.specs.declared.step.Step.{Step};
+ghost use Rattle.world_runs.specs.Traces.{Reaches};
+ghost use Rattle.journal_laws.specs.Example.{IsQuiet, alone, before, worked};
+ghost use Rattle.journal_laws.specs.Joining.{IsCut, IsListed};
+ghost use Rattle.journal_laws.specs.OldStores.{IsJournalOver, openings};
+ghost use Rattle.journal_laws.specs.Telling.{
+  AcceptedAreKnown,
+  AreChosen,
+  DeliveriesStand,
+  DeliveriesStandInTheRun,
+  GrantNoneAfterAFate,
+  IdsAreNotRefusedAtOnce,
+  LaterQueriesAreTold,
+  TellOneFate,
+};
+
+/// The journal of a cluster is a run of it: if each node's entries are its own run, and each packet that comes was sent before, then the run of the
+/// cluster goes on by the steps of all entries, in the order of the journal, with what they gave.
+pub fn a_journal_is_a_run()
+    ensures { (cluster : Cluster) (behind : List Packet) (inputs : List NodeInput) (entries : List Entry) (ends : ℕ → Kept) →
+        IsJournal cluster behind inputs entries ends → RunsOn cluster behind inputs entries ends }
+{}
+
+/// A journal that begins where the run of another one leads is a part of one journal: both of them, one after the other. And each journal can be cut so, at
+/// any place: its front is a journal, and what is behind is one from where the front leads.
+pub fn a_journal_goes_on()
+    ensures both { (cluster : Cluster) (behind : List Packet) (inputs : List NodeInput) (first second : List Entry) (middles ends : ℕ → Kept) →
+        IsJournal cluster behind inputs first middles → (way : RunsOn cluster behind inputs first middles) →
+        IsJournal cluster behind way.last second ends → IsJournal cluster behind inputs (first ++ second) ends }
+    ensures cut { (cluster : Cluster) (behind : List Packet) (inputs : List NodeInput) (first second : List Entry) (ends : ℕ → Kept) →
+        IsJournal cluster behind inputs (first ++ second) ends → IsCut cluster behind inputs first second ends }
+{}
+
+/// And a journal of nodes that opened over stores which a run of the same nodes left, or over new ones, goes on with that run: behind it each node whose
+/// store was not new starts anew, once, and the packets of the journal are numbered on.
+pub fn a_journal_goes_on_over_old_stores()
+    ensures { (cluster : Cluster) (inputs : List NodeInput) (fresh : ℕ → Bool) (lost : ℕ → ℕ) (entries : List Entry) (ends : ℕ → Kept) →
+        IsJournalOver cluster inputs fresh lost entries ends →
+        IsJournal cluster (kept_reached cluster inputs).packets (openings fresh lost cluster.nodes ++ inputs) entries ends }
+{}
+
+/// And each run of a cluster is a journal, of its steps with what they gave: so a journal is no more and no less than a run.
+pub fn a_run_is_a_journal()
+    ensures { (cluster : Cluster) (behind : List Packet) (inputs last : List NodeInput) (taken : List Step) (givens : List Given) → cluster.nodes ≤ 9 →
+        MayHappen cluster last → Reaches cluster behind inputs taken (map Ok givens) last → IsListed cluster behind inputs taken givens last }
+{}
+
+/// So no two final states that its entries tell of one message differ, whichever nodes tell them.
+pub fn a_journal_tells_one_fate()
+    ensures { (cluster : Cluster) (behind : List Packet) (inputs : List NodeInput) (entries : List Entry) (ends : ℕ → Kept) →
+        IsJournal cluster behind inputs entries ends → TellOneFate entries }
+{}
+
+/// And behind an entry that told a final state of a message, as DELETED by ESME_ROK to its cancel_sm, none grants an attempt of it.
+pub fn a_journal_grants_nothing_after_a_fate()
+    ensures { (cluster : Cluster) (behind : List Packet) (inputs : List NodeInput) (entries : List Entry) (ends : ℕ → Kept) →
+        IsJournal cluster behind inputs entries ends → GrantNoneAfterAFate entries }
+{}
+
+/// And before an entry tells DELIVERED of a message, an attempt of it was granted at the node of the attempt's author, and its answer ESME_ROK was taken
+/// there, in the same life of the node: by earlier entries, if all stores were new, and else by them or before them.
+pub fn a_journal_tells_deliveries_that_stand()
+    ensures new { (cluster : Cluster) (behind : List Packet) (entries : List Entry) (ends : ℕ → Kept) →
+        IsJournal cluster behind [] entries ends → DeliveriesStand entries }
+    ensures any { (cluster : Cluster) (behind : List Packet) (inputs : List NodeInput) (entries : List Entry) (ends : ℕ → Kept) →
+        IsJournal cluster behind inputs entries ends → DeliveriesStandInTheRun cluster behind inputs entries }
+{}
+
+/// And before an entry tells a final state of a message, a majority of the nodes voted for its chain at one ballot, in packets that were sent before the
+/// journal or by earlier entries.
+pub fn a_journal_tells_what_was_chosen()
+    ensures { (cluster : Cluster) (behind : List Packet) (inputs : List NodeInput) (entries : List Entry) (ends : ℕ → Kept) →
+        IsJournal cluster behind inputs entries ends → AreChosen cluster.nodes (kept_reached cluster inputs).packets entries }
+{}
+
+/// And a query_sm whose entry stands behind one that told a final state of its message, and that is answered by ESME_ROK in the same life of its node, is
+/// told that state; and no request whose entry stands behind ESME_ROK to the submit_sm of its message is answered so that there is no such message,
+/// nor is any that names a message by its id refused so at once.
+pub fn a_journal_answers_by_what_it_told()
+    ensures told { (cluster : Cluster) (behind : List Packet) (inputs : List NodeInput) (entries : List Entry) (ends : ℕ → Kept) →
+        IsJournal cluster behind inputs entries ends → LaterQueriesAreTold entries }
+    ensures known { (cluster : Cluster) (behind : List Packet) (inputs : List NodeInput) (entries : List Entry) (ends : ℕ → Kept) →
+        IsJournal cluster behind inputs entries ends → AcceptedAreKnown entries }
+    ensures at_once { (cluster : Cluster) (behind : List Packet) (inputs : List NodeInput) (entries : List Entry) (ends : ℕ → Kept) →
+        IsJournal cluster behind inputs entries ends → IdsAreNotRefusedAtOnce entries }
+{}
+
+/// Such journals are: a node promises and proposes, stops as it has saved its vote, starts anew, and refuses the Prepare that comes once more. What it gives
+/// out but for packets is nothing.
+pub fn a_journal_is_worked()
+    ensures { (quiet : ℕ → Given) → IsQuiet quiet → (ends : ℕ → Kept) × IsJournal alone [] before (worked quiet) ends }
+{}
