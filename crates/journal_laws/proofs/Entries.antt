@@ -10,7 +10,7 @@ use Rattle.world.specs.declared.step.Step.{Step}
 use Rattle.world.specs.declared.step.Step.TheVariants as steps
 use Rattle.world.specs.Runs.{node_at}
 use Rattle.world_runs.specs.Traces.{BeginsAnew, Event, Tried, events_of}
-use Rattle.journal_laws.specs.Journals.{Done, Entry, Unfinished, done_in, events_done, steps_for, stop_of}
+use Rattle.journal_laws.specs.Journals.{Done, Entry, Unfinished, answers_given, done_in, steps_done, steps_for, stop_of}
 use Rattle.journal_laws.specs.Telling.{LivesOn}
 use Rattle.journal_laws.proofs.Joining.{done_both}
 
@@ -25,7 +25,7 @@ tried_all : (taken : List Done) → events_of (map (λ done. done.step) taken) (
 tried_all [] = refl
 tried_all (done ∷ later) = ap (λ (events : List Event). tried done ∷ events) (tried_all later)
 
-pub events_tried : (entries : List Entry) → events_done entries ≡ tried_in entries
+pub events_tried : (entries : List Entry) → events_of (steps_done entries) (answers_given entries) ≡ tried_in entries
 events_tried entries = tried_all (done_in entries)
 
 -- ---- an entry, and the stop before it

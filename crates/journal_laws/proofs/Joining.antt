@@ -1,8 +1,10 @@
 -- Journals one after the other, and a journal cut in two.
-use Rattle.std.proofs.Common.{◌≡◌, ℕ, Bool, true, false, List, [], ◌∷◌, ◌++◌, length, refl, sym, ap, subst, ◌∙◌, inl, inr, arith, append_assoc}
-use Rattle.std.specs.Prelude.{reverse, filter, cond, nat_le, ◌&&◌, ◌==◌}
+use Rattle.std.proofs.Common.{◌≡◌, ℕ, Bool, true, false, List, [], ◌∷◌, ◌++◌, length, refl, sym, ap, subst, ◌∙◌, inl, inr, arith}
+use Rattle.std.specs.Prelude.{reverse, nat_le, ◌&&◌, ◌==◌}
 use Rattle.std.specs.List.{flat_map}
 use Rattle.std.proofs.lemmas.Bool.Decides.{nat_tests}
+use Rattle.std.proofs.lemmas.Grind.{flat_map-append}
+use Rattle.std.proofs.lemmas.List.Elements.{filter-append}
 use Rattle.mc_model.specs.synod.Packet.{Packet}
 use Rattle.mc_model.specs.node.Setup.{Setup}
 use Rattle.mc_model.specs.cluster.Steps.{Cluster, setup_of}
@@ -15,28 +17,15 @@ use Rattle.journal_laws.specs.Journals.{Done, Entry, IsInRange, IsJournal, IsOwn
 use Rattle.journal_laws.specs.Joining.{IsCut}
 use Rattle.journal_laws.proofs.Running.{packets_more, runs_on}
 
--- ---- lists
-
-filter_appended : {A : Type 0} (test : A → Bool) (xs ys : List A) → filter test (xs ++ ys) ≡ filter test xs ++ filter test ys
-filter_appended test [] ys = refl
-filter_appended test (x ∷ xs) ys =
-    ap (λ (zs : List _). cond (test x) (x ∷ zs) zs) (filter_appended test xs ys) ∙ by_test (test x) (filter test xs) (filter test ys) x
-  where
-    by_test : {A : Type 0} (b : Bool) (front back : List A) (x : A) → cond b (x ∷ (front ++ back)) (front ++ back) ≡ cond b (x ∷ front) front ++ back
-    by_test true front back x = refl
-    by_test false front back x = refl
-
-flat_appended : {A B : Type 0} (f : A → List B) (xs ys : List A) → flat_map f (xs ++ ys) ≡ flat_map f xs ++ flat_map f ys
-flat_appended f [] ys = refl
-flat_appended f (x ∷ xs) ys = ap (λ (zs : List _). f x ++ zs) (flat_appended f xs ys) ∙ sym (append_assoc (f x) (flat_map f xs) (flat_map f ys))
+-- ---- the steps of both
 
 pub done_both : (first second : List Entry) → done_in (first ++ second) ≡ done_in first ++ done_in second
-done_both first second = flat_appended (λ entry. steps_for entry.done entry.unfinished) first second
+done_both first second = flat_map-append (λ entry. steps_for entry.done entry.unfinished) first second
 
 pub at_both : (node : ℕ) (first second : List Entry) →
     done_in (entries_at node (first ++ second)) ≡ done_in (entries_at node first) ++ done_in (entries_at node second)
 at_both node first second =
-    ap done_in (filter_appended (λ entry. node_at entry.done.step == node) first second) ∙ done_both (entries_at node first) (entries_at node second)
+    ap done_in (filter-append (λ entry. node_at entry.done.step == node) first second) ∙ done_both (entries_at node first) (entries_at node second)
 
 -- ---- runs of one node
 

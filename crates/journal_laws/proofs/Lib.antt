@@ -1,5 +1,6 @@
 pub mod Running
 pub mod Joining
+pub mod Taken
 pub mod Listing
 pub mod OldStores
 pub mod Entries

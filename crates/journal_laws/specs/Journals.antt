@@ -22,7 +22,7 @@ use Rattle.world.specs.declared.given.Given.{Given}
 use Rattle.world.specs.declared.step.Step.{Step}
 use Rattle.world.specs.declared.step.Step.TheVariants as steps
 use Rattle.world.specs.Runs.{given_out, node_at}
-use Rattle.world_runs.specs.Traces.{Answer, Event, Reaches, events_of}
+use Rattle.world_runs.specs.Traces.{Answer, Reaches}
 
 -- ---- what stands in a journal
 
@@ -59,9 +59,6 @@ steps_done entries = map (λ done. done.step) (done_in entries)
 
 abbrev pub answers_given : List Entry → List Answer
 answers_given entries = map (λ done. Ok done.given) (done_in entries)
-
-abbrev pub events_done : List Entry → List Event
-events_done entries = events_of (steps_done entries) (answers_given entries)
 
 abbrev pub packets_sent : List Entry → List Packet
 packets_sent entries = flat_map (λ done. done.sent) (done_in entries)

@@ -1,5 +1,6 @@
 pub mod Journals
 pub mod Joining
+pub mod Taken
 pub mod OldStores
 pub mod Telling
 pub mod Example

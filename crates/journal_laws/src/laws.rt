@@ -5,7 +5,14 @@ ghost use Rattle.mc_model.specs.synod.Packet.{Packet};
 ghost use Rattle.mc_model.specs.cluster.Steps.{Cluster};
 ghost use Rattle.node_model.specs.Kept.{Kept};
 ghost use Rattle.node_laws.specs.Clusters.{MayHappen, NodeInput, kept_reached};
-ghost use Rattle.journal_laws.specs.Journals.{Entry, IsJournal, RunsOn};
+ghost use Rattle.node_core.specs.Input.{Input};
+ghost use Rattle.node_core.specs.Keeping.{kept_of};
+ghost use Rattle.node_core.specs.Nodes.{HasTaken, Standing};
+ghost use Rattle.node_core.specs.Outputs.{Outputs};
+ghost use Rattle.node_core.specs.Steps.{input_of};
+ghost use Rattle.node_laws.specs.Runs.{MayCome};
+ghost use Rattle.journal_laws.specs.Taken.{done_by};
+ghost use Rattle.journal_laws.specs.Journals.{Entry, IsJournal, IsOwnStep, RunsOn};
 ghost use Rattle.world.specs.declared.given.Given.{Given};
 ghost use Rattle.world.specs.declared.step.Step.{Step};
 ghost use Rattle.world_runs.specs.Traces.{Reaches};
@@ -28,6 +35,13 @@ ghost use Rattle.journal_laws.specs.Telling.{
 pub fn a_journal_is_a_run()
     ensures { (cluster : Cluster) (behind : List Packet) (inputs : List NodeInput) (entries : List Entry) (ends : ℕ → Kept) →
         IsJournal cluster behind inputs entries ends → RunsOn cluster behind inputs entries ends }
+{}
+
+/// A step that a node of the code took, of what may come to it, is one of its own run: its entry has what the node gave out, and the number of the packet.
+pub fn a_step_of_a_node_is_its_own<S>()
+    ensures { (old new : Standing S) (number : ℕ) (input : Input) (outputs : Outputs) →
+        MayCome old.kept.setup (kept_of old.kept) (input_of old.kept.setup (kept_of old.kept) input) → HasTaken old input new outputs →
+        IsOwnStep old.kept.setup (kept_of old.kept) (done_by old.kept.setup.node number input outputs) }
 {}
 
 /// A journal that begins where the run of another one leads is a part of one journal: both of them, one after the other. And each journal can be cut so, at
