@@ -4,6 +4,7 @@
 mod failing;
 mod fault;
 mod holding;
+mod latch;
 mod laws;
 mod list;
 mod store;
@@ -11,6 +12,7 @@ mod store;
 pub use failing::{FailingStore, Found};
 pub use fault::StoreFault;
 pub use holding::{Hold, HoldingStore};
+pub use latch::{Latch, LatchHold};
 pub use laws::a_list_is_exact;
 pub use list::ListStore;
 pub use store::StableStore;

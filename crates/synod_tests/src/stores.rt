@@ -2,9 +2,15 @@
 
 use crate::same::assert_same;
 use crate::values::{ballot, vote};
-use stable_store::{FailingStore, Found, Hold, HoldingStore, ListStore, StableStore, StoreFault};
+use stable_store::{
+    FailingStore, Found, Hold, HoldingStore, Latch, LatchHold, ListStore, StableStore, StoreFault,
+};
 use std::alloc::Global;
 use std::process::Abort;
+use std::sync::atomic::{AtomicBool, Ordering};
+use std::sync::{Arc, Wait};
+use std::thread;
+use std::thread::Threads;
 use synod_acceptor::{Change, Record, Report};
 
 fn change(rt: &impl Abort, alloc: Global, promised: u64) -> Change {
@@ -147,4 +153,39 @@ fn a_save_that_is_held_is_done(rt: HostRuntime) {
     let seen = saved_and_loaded(&rt, alloc, &mut store);
     drop(store);
     assert_same(&rt, &seen, &((None, None), (2, Some(262162)), 0));
+}
+
+// Lets a save go on once it came; whether it was done before.
+fn let_go(rt: &impl Wait, latch: &Latch, is_saved: &AtomicBool) -> bool {
+    for _ in rt.forever() {
+        if latch.is_reached() {
+            break;
+        }
+        thread::yield_now();
+    }
+    let early = is_saved.load(Ordering::SeqCst);
+    latch.open();
+    early
+}
+
+// Whether the first save of a store, which is held up, was done before another thread let it go, and what is loaded afterwards.
+fn held_up<R: Threads + Wait + Abort + Sync>(rt: &R, alloc: Global) -> (bool, usize) {
+    let latch = Arc::new(alloc, Latch::new()).expect(rt, "memory");
+    let hold = LatchHold::make(Arc::try_clone(&latch).expect(rt, "memory"));
+    let mut store = HoldingStore::make(ListStore::make(alloc), 1, hold);
+    let is_saved = AtomicBool::new(false);
+    let save = || {
+        fault_of(rt, alloc, &mut store, 262161);
+        is_saved.store(true, Ordering::SeqCst);
+    };
+    let (_, early) = thread::join(rt, save, || let_go(rt, &latch, &is_saved));
+    let (records, _) = loaded(rt, &mut store);
+    drop((store, latch));
+    (early, records)
+}
+
+#[test]
+fn a_save_waits_for_another_thread(rt: HostRuntime) {
+    let seen = held_up(&rt, rt.alloc());
+    assert_same(&rt, &seen, &(false, 1));
 }
