@@ -30,7 +30,7 @@ def libraries():
         for line in lines:
             if ":" in line and not line.startswith("#"):
                 crate, beneath = line.split(":", 1)
-                named[crate] = beneath.split()
+                named[crate.split()[0]] = beneath.split()
     return named
 
 

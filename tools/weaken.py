@@ -42,7 +42,7 @@ def read(name):
 def listed():
     """The lines of crates.txt, by their crates."""
     with open(os.path.join(ROOT, "crates.txt"), encoding="utf-8") as lines:
-        return {line.split(":")[0]: line for line in lines if ":" in line and not line.startswith("#")}
+        return {line.split(":")[0].split()[0]: line for line in lines if ":" in line and not line.startswith("#")}
 
 
 def below(crate, lines, found=None):
