@@ -132,7 +132,7 @@ as_crashed old mid packet left lost node life lists has_stopped may opened =
 
 -- ---- what is told of a stop
 
-told_as : {S : Type 0} (k : Holding) (stored : Records) (packet : Sent) (lost : ℕ) (node : Standing S) (life : Life) (told : Stopped) →
+pub told_as : {S : Type 0} (k : Holding) (stored : Records) (packet : Sent) (lost : ℕ) (node : Standing S) (life : Life) (told : Stopped) →
     ListsRecorded (kept_of k) →
     HasOpened k.setup stored (next_life (kept_of k) lost) node life → IsToldOf k stored packet told → (found : Found) → told.found ≡ found →
     kept_of node.kept ≡ (stepped k.setup (stepped k.setup (kept_of k) (Crash (packet_of packet) (is_after found))).kept (Restart lost)).kept

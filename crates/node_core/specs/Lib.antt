@@ -8,6 +8,7 @@ pub use Rattle.node_kept.specs.Setups
 pub use Rattle.node_kept.specs.Steps
 pub use Rattle.node_kept.specs.declared.kept.Kept
 pub use Rattle.node_kept.specs.declared.stopped.Found
+pub use Rattle.node_kept.specs.declared.stopped.Stopped
 pub mod Pendings
 pub mod Stops
 pub mod Nodes

@@ -227,10 +227,11 @@ impl<S: StableStore> Node<S> {
     }
 
     /// What a proof takes of its messages: each of which there is a record is among them, and unless a save failed, the records that it keeps are
-    /// those of its store. The call does nothing.
+    /// those of its store. Whoever opens its store finds these, or what the step of the packet leaves whose save failed. The call does nothing.
     pub fn lists(&self)
         ensures lists { ListsRecorded (kept_of self.now.kept) }
         ensures saved { self.now.broken ≡ false → (S.stored self.now.store).holds (kept_of self.now.kept).records }
+        ensures left { (left : Records) → (S.stored self.now.store).may_hold left → IsUnfinished self.now.kept left self.now.unfinished }
     {
         self.kept.lists();
     }
