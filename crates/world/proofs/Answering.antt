@@ -27,7 +27,7 @@ use Rattle.world.specs.declared.given.Given.{Given as Gives}
 use Rattle.world.specs.declared.step.Step.{Step}
 use Rattle.world.specs.declared.step.Step.TheVariants as steps
 use Rattle.world.specs.Members.{DoesNotTake, HasTaken, IsSentIn, Keeps, fault_from}
-use Rattle.world.specs.Runs.{Comes, GoesOn, GrantsKnownBy, IsAt, IsFault, Leads, StaysAt, away, or_else, refusal_of, unsent}
+use Rattle.world.specs.Runs.{Comes, GoesOn, GrantsKnownBy, IsAt, IsFault, Leads, LosesNone, StaysAt, away, or_else, refusal_of, unsent}
 use Rattle.world.specs.Scenes.{Scene}
 use Rattle.world.proofs.Going.{stays}
 use Rattle.world.proofs.Leading.{not_taken, taken}
@@ -41,6 +41,7 @@ after cluster inputs = kept_reached cluster inputs
 pub record IsInputOf (old : Scene) (step : Step) (node : ℕ) (input : Given) : Type 0 where
   pub comes : (cluster : Cluster) (behind : List Packet) (inputs : List NodeInput) → IsAt cluster behind inputs old →
       Comes cluster (length behind) (after cluster inputs) step (comes_to node (input_of (setup_of cluster node) ((after cluster inputs).kept node) input))
+  pub loses : (next : NodeInput) → LosesNone step next
   pub refused : (cluster : Cluster) (behind : List Packet) (inputs : List NodeInput) → IsAt cluster behind inputs old →
       refusal_of cluster (length behind) (after cluster inputs) step
       ≡ or_else (away cluster (after cluster inputs) node) (option_map fault_from (refused_by (setup_of cluster node) ((after cluster inputs).kept node) input))
@@ -60,6 +61,7 @@ module _ (old new : Scene) (step : Step) (node : ℕ) (input : Given) (is : IsIn
         allowed = is.refused cluster behind inputs now ∙ (λ i. or_else (it.present i) (option_map fault_from (it.allowed i)));
         next = _;
         comes = is.comes cluster behind inputs now;
+        loses = is.loses _;
         at = it.at_then;
         gives = it.given_is;
         granted = is.grants (after cluster inputs) gives.granted it.granted;
@@ -97,6 +99,7 @@ pub request_is : (old : Scene) (node : ℕ) (account : _) (request : _) → IsIn
 request_is old node account request = record {
   grants = λ w granted known. known;
   comes = λ cluster behind inputs now. refl;
+  loses = λ next. tt;
   refused = λ cluster behind inputs now. or_none _;
 }
 
@@ -104,6 +107,7 @@ pub tick_is : (old : Scene) (node moment : ℕ) (up : _) → IsInputOf old (step
 tick_is old node moment up = record {
   grants = λ w granted known. known;
   comes = λ cluster behind inputs now. refl;
+  loses = λ next. tt;
   refused = λ cluster behind inputs now. or_none _;
 }
 
@@ -117,6 +121,7 @@ pub grant_is : (old : Scene) (node id : ℕ) → IsInputOf old (steps.Grant node
 grant_is old node id = record {
   grants = λ w granted known. known;
   comes = λ cluster behind inputs now. refl;
+  loses = λ next. tt;
   refused = λ cluster behind inputs now. ap (or_else (away cluster (after cluster inputs) node))
       (granted_so (grant_refusal (setup_of cluster node) ((after cluster inputs).kept node) id));
 }
@@ -129,6 +134,7 @@ pub answered_is : (old : Scene) (node : ℕ) (slot : _) (outcome : _) → IsInpu
 answered_is old node slot outcome = record {
   grants = λ w granted known. known;
   comes = λ cluster behind inputs now. refl;
+  loses = λ next. tt;
   refused = λ cluster behind inputs now. ap (or_else (away cluster (after cluster inputs) node)) (open_so (is_open ((after cluster inputs).kept node) slot));
 }
 
@@ -158,6 +164,7 @@ pub deliver_is : (old : Scene) (number node : ℕ) (packet : Sent) → numbered 
 deliver_is old number node packet is = record {
   grants = λ w granted known. known;
   comes = λ cluster behind inputs now. (packet_of packet, number_is cluster behind inputs old now number packet is, refl);
+  loses = λ next. tt;
   refused = λ cluster behind inputs now.
       ap (λ (o : Option WorldFault). or_else o (away cluster (after cluster inputs) node)) (unsent_some cluster behind inputs old now number packet is)
       ∙ or_none _;

@@ -167,6 +167,7 @@ crash_leads old new node number place packet found (Ok gives) place_is packet_is
             ∙ away_none cluster behind inputs old now node place up is is_up;
         next = comes_to node (Crash (packet_of packet) (is_after found));
         comes = (packet_of packet, sent, refl);
+        loses = tt;
         at = stopped_at cluster behind inputs old new now node place packet (is_after found) gives place_is has (number_in _ _ _ sent);
         gives = stop_gives cluster behind inputs old new now node place packet (is_after found) gives place_is has;
         granted = tt;
@@ -193,7 +194,8 @@ restart_leads old new node place (Ok gives) place_is has cant keeps = record {
         (spent (kept_reached cluster inputs) node))
         ∙ not_spent cluster behind inputs old new now node place gives place_is has;
     next = comes_to node (Restart 0);
-    comes = refl;
+    comes = (0, refl);
+    loses = refl;
     at = begun_at cluster behind inputs old new now node place gives place_is has;
     gives = begun_gives cluster behind inputs old new now node place gives place_is has;
     granted = tt;

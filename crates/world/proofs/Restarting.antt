@@ -38,7 +38,7 @@ one_begun old now new place given are has =
           let leads : Leads now (steps.Restart (suc place)) (Ok given) new =
           restart_leads now new (suc place) place (Ok given) (one_more place) has tt tt in
           let on = leads.each cluster behind (begin_anew place ++ inputs) (are.each cluster behind inputs here) in
-          subst (λ (next : NodeInput). IsAt cluster behind (next ∷ (begin_anew place ++ inputs)) new) on.comes on.at;
+          subst (λ (next : NodeInput). IsAt cluster behind (next ∷ (begin_anew place ++ inputs)) new) on.loses on.at;
     })
 
 pub halts : (old now new : Scene) (place : ℕ) (fault : WorldFault) → place < length old.members → AreBegun old place now → CantBegin now place fault →

@@ -49,7 +49,12 @@ Comes cluster behind w (steps.Grant node id) next = next ≡ comes_to node (Gran
 Comes cluster behind w (steps.Answered node slot outcome) next = next ≡ comes_to node (Response slot (outcome_kept outcome))
 Comes cluster behind w (steps.Crash node number found) next =
     (packet : Packet) × HasNumber w.packets (number + behind) packet × (next ≡ comes_to node (Crash packet (is_after found)))
-Comes cluster behind w (steps.Restart node) next = next ≡ comes_to node (Restart 0)
+Comes cluster behind w (steps.Restart node) next = (lost : ℕ) × (next ≡ comes_to node (Restart lost))
+
+-- of a start anew: it loses no incarnation
+abbrev pub LosesNone : Step → NodeInput → Type 0
+LosesNone (steps.Restart node) next = next ≡ comes_to node (Restart 0)
+LosesNone other next = Unit {0}
 
 -- ---- the node that takes a step
 
@@ -194,11 +199,12 @@ GrantsKnownBy w (steps.Answered node slot outcome) granted = Unit {0}
 GrantsKnownBy w (steps.Crash node number found) granted = Unit {0}
 GrantsKnownBy w (steps.Restart node) granted = Unit {0}
 
--- The step was taken: this came to a node, and this is what the model's cluster gives out.
+-- The step was taken: this came to a node, and this is what the model's cluster gives out. A store in memory loses no incarnation.
 pub record GoesOn (cluster : Cluster) (behind : List Packet) (inputs : List NodeInput) (step : Step) (given : Given) (new : Scene) : Type 0 where
   pub allowed : refusal_of cluster (length behind) (kept_reached cluster inputs) step ≡ None
   pub next : NodeInput
   pub comes : Comes cluster (length behind) (kept_reached cluster inputs) step next
+  pub loses : LosesNone step next
   pub at : IsAt cluster behind (next ∷ inputs) new
   pub gives : IsGiven given (step_at cluster (kept_reached cluster inputs) next).outputs
   pub granted : GrantsKnownBy (kept_reached cluster inputs) step given.granted

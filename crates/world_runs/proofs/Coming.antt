@@ -63,7 +63,7 @@ module _ (cluster : Cluster) (behind : ℕ) (w : KeptCluster) (node : ℕ) where
       λ i. steps.Grant (node_is other (Grant slot) (Grant (known_slot (w.kept other) id)) c i) (ids i)
   granted_by_step slot (steps.Answered other place outcome) c = let same = input_is other (Grant slot) (Response place (outcome_kept outcome)) c in absurd (cc)
   granted_by_step slot (steps.Crash other number found) c = let same = input_is other (Grant slot) _ c.2 in absurd (cc)
-  granted_by_step slot (steps.Restart other) c = let same = input_is other (Grant slot) (Restart 0) c in absurd (cc)
+  granted_by_step slot (steps.Restart other) c = let same = input_is other (Grant slot) (Restart c.0) c.1 in absurd (cc)
 
   abbrev answer : Slot → Input
   answer slot = Response slot (Concluded Delivered 0)
@@ -82,7 +82,7 @@ module _ (cluster : Cluster) (behind : ℕ) (w : KeptCluster) (node : ℕ) where
       let only = delivered_only outcome outcomes_are in
       λ i. steps.Answered (node_is other (answer slot) (Response place (outcome_kept outcome)) c i) (places i) (only i)
   answered_by_step slot (steps.Crash other number found) c = let same = input_is other (answer slot) _ c.2 in absurd (cc)
-  answered_by_step slot (steps.Restart other) c = let same = input_is other (answer slot) (Restart 0) c in absurd (cc)
+  answered_by_step slot (steps.Restart other) c = let same = input_is other (answer slot) (Restart c.0) c.1 in absurd (cc)
 
   pub started_by_step : (lost : ℕ) (step : Step) → Comes cluster behind w step (comes_to node (Restart lost)) → step ≡ steps.Restart node
   started_by_step lost (steps.Deliver number other) c = let same = input_is other (Restart lost) (Delivery c.0) c.2 in absurd (cc)
@@ -92,7 +92,7 @@ module _ (cluster : Cluster) (behind : ℕ) (w : KeptCluster) (node : ℕ) where
   started_by_step lost (steps.Answered other place outcome) c =
       let same = input_is other (Restart lost) (Response place (outcome_kept outcome)) c in absurd (cc)
   started_by_step lost (steps.Crash other number found) c = let same = input_is other (Restart lost) _ c.2 in absurd (cc)
-  started_by_step lost (steps.Restart other) c = λ i. steps.Restart (node_is other (Restart lost) (Restart 0) c i)
+  started_by_step lost (steps.Restart other) c = λ i. steps.Restart (node_is other (Restart lost) (Restart c.0) c.1 i)
 
 -- a step is taken by its node
 pub node_of_step : (cluster : Cluster) (behind : ℕ) (w : KeptCluster) (step : Step) (next : NodeInput) → Comes cluster behind w step next →
@@ -103,7 +103,7 @@ node_of_step cluster behind w (steps.Tick node moment up) next c = ap (λ (x : N
 node_of_step cluster behind w (steps.Grant node id) next c = ap (λ (x : NodeInput). x.node) c
 node_of_step cluster behind w (steps.Answered node slot outcome) next c = ap (λ (x : NodeInput). x.node) c
 node_of_step cluster behind w (steps.Crash node number found) next c = ap (λ (x : NodeInput). x.node) c.2
-node_of_step cluster behind w (steps.Restart node) next c = ap (λ (x : NodeInput). x.node) c
+node_of_step cluster behind w (steps.Restart node) next c = ap (λ (x : NodeInput). x.node) c.1
 
 -- ---- a request that waits
 

@@ -32,6 +32,7 @@ leads_of old (steps.Tick node moment up) (steps.Tick same then others) answer ne
           allowed = goes.allowed;
           next = goes.next;
           comes = goes.comes ∙ ap (λ (accounts : List (List ℕ)). comes_to node (Tick moment (is_up accounts))) is.2;
+          loses = tt;
           at = goes.at;
           gives = goes.gives;
           granted = tt;

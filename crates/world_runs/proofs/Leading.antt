@@ -1,16 +1,19 @@
 -- A list of steps, one after the other.
 use Rattle.std.specs.Prelude.{drop, map}
-use Rattle.std.proofs.Common.{◌≡◌, ℕ, ◌+◌, ◌≤◌, true, List, [], ◌∷◌, ◌++◌, length, Ok, Err, refl, sym, ap, subst, ◌∙◌, arith, append_assoc, length-append}
+use Rattle.std.proofs.Common.{◌≡◌, ℕ, ◌+◌, ◌≤◌, true, List, [], ◌∷◌, ◌++◌, length, Ok, Err, refl, sym, ap, subst, ◌∙◌, inl, inr, arith}
+use Rattle.std.proofs.Common.{append_assoc, length-append}
 use Rattle.mc_model.specs.synod.Packet.{Packet}
 use Rattle.mc_model.specs.cluster.Steps.{Cluster}
-use Rattle.node_laws.specs.Clusters.{NodeInput}
+use Rattle.mc_model.specs.node.Input.{Restart}
+use Rattle.node_laws.specs.Clusters.{KeptCluster, NodeInput, comes_to, kept_reached}
 use Rattle.synod_acceptor.specs.Packets.{packet_of}
 use Rattle.world.specs.declared.step.Step.{Step}
-use Rattle.world.specs.Runs.{IsAt, IsSomewhere, Leads}
+use Rattle.world.specs.Runs.{Comes, IsAt, IsSomewhere, Leads, LosesNone}
 use Rattle.world.specs.Scenes.{Scene}
 use Rattle.world_runs.specs.Histories.{BecomesBy, History, numbered_by}
 use Rattle.world_runs.specs.Traces.{AcceptedAreKnown, Answer, AreChosen, AreCopies, DeliveriesStand, DeliveriesStandInRuns, Event, GoesTo}
 use Rattle.world_runs.specs.Traces.{GrantsNoneAfterAFate, HasOneFate, LaterQueriesAreTold, LeadsAll, Tried, answers_in, events_of}
+use Rattle.world_runs.proofs.Coming.{started_by_step}
 use Rattle.world_runs.proofs.Copying.{becomes_of, copies_count}
 use Rattle.world_runs.proofs.Linking.{accepted_known, chosen_all, deliveries_stand_in, goes_on_by, grants_none_after, has_one_fate, later_queries_told}
 use Rattle.world_runs.proofs.Standing.{deliveries_stand_in_run}
@@ -32,19 +35,44 @@ answers_are (next ∷ steps) [] count = absurd (omega (arith, count))
 answers_are (next ∷ steps) (first ∷ answers) count = ap (λ (later : List Answer). first ∷ later) (answers_are steps answers (omega (arith, count)))
 
 module _ (cluster : Cluster) (behind : List Packet) where
+  -- one that started anew by this step did not
+  loses_none : (w : KeptCluster) (step : Step) (next : NodeInput) (node lost : ℕ) → Comes cluster (length behind) w step next → LosesNone step next →
+      comes_to node (Restart lost) ≡ next → lost ≡ 0
+  loses_none w step next node lost comes loses same =
+      let starts = started_by_step cluster (length behind) w node lost step (subst (Comes cluster (length behind) w step) (sym same) comes) in
+      let now : next ≡ comes_to node (Restart 0) = subst (λ (s : Step). LosesNone s next) starts loses in
+      let inputs : Restart lost ≡ Restart 0 = ap (λ (x : NodeInput). x.input) (same ∙ now) in
+      cc
+
   goes_to : (inputs : List NodeInput) (old : Scene) (steps : List Step) (answers : List Answer) (new : Scene) → length answers ≡ length steps →
       BecomesBy old (events_of steps answers) new → IsAt cluster behind inputs old → GoesTo cluster behind inputs steps answers new
-  goes_to inputs old [] [] new count same at = record { last = inputs; reaches = refl; at = subst (IsAt cluster behind inputs) (sym same) at }
+  goes_to inputs old [] [] new count same at = record {
+    last = inputs;
+    reaches = refl;
+    loses = λ node lost among. inl among;
+    at = subst (IsAt cluster behind inputs) (sym same) at;
+  }
   goes_to inputs old [] (first ∷ answers) new count way at = absurd (omega (arith, count))
   goes_to inputs old (step ∷ steps) [] new count way at = absurd (omega (arith, count))
   goes_to inputs old (step ∷ steps) (Ok given ∷ answers) new count way at =
       let goes = way.1.each cluster behind inputs at in
       let on = goes_to (goes.next ∷ inputs) way.0 steps answers new (omega (arith, count)) way.2 goes.at in
-      record { last = on.last; reaches = (goes.next, goes.allowed, goes.comes, goes.gives, on.reaches); at = on.at }
+      record {
+        last = on.last;
+        reaches = (goes.next, goes.allowed, goes.comes, goes.gives, on.reaches);
+        loses = λ node lost among. elim (on.loses node lost among) [
+          | inl before ↦ (elim before [
+            | inl here ↦ inr (loses_none (kept_reached cluster inputs) step goes.next node lost goes.comes goes.loses here)
+            | inr older ↦ inl older
+          ])
+          | inr none ↦ inr none
+        ];
+        at = on.at;
+      }
   goes_to inputs old (step ∷ steps) (Err fault ∷ answers) new count way at =
       let stays = way.1.each cluster behind inputs at in
       let on = goes_to inputs way.0 steps answers new (omega (arith, count)) way.2 stays.at in
-      record { last = on.last; reaches = (stays.refused, on.reaches); at = on.at }
+      record { last = on.last; reaches = (stays.refused, on.reaches); loses = on.loses; at = on.at }
 
 -- ---- so far
 
@@ -122,7 +150,7 @@ pub stand_in_runs : (old new : Scene) (steps : List Step) (answers : List Answer
     DeliveriesStandInRuns old steps answers
 stand_in_runs old new steps answers all cluster behind inputs now =
     let so = goes_to cluster behind inputs old steps answers new all.count all.becomes now in
-    deliveries_stand_in_run cluster behind inputs steps answers so.last so.reaches so.at.may
+    deliveries_stand_in_run cluster behind inputs steps answers so.last so.reaches so.loses so.at.may
 
 -- by steps alone the world goes on with its numbers
 all_numbered : (old new : Scene) (steps : List Step) (answers : List Answer) → length answers ≡ length steps →

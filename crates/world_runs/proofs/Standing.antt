@@ -1,5 +1,5 @@
 -- Each DELIVERED that a world tells stands on an attempt that was granted and answered.
-use Rattle.std.proofs.Common.{◌≡◌, ℕ, Bool, true, false, List, [], ◌∷◌, ◌++◌, Some, Ok, Err, refl, ap, subst, ◌∙◌, append_assoc, inl}
+use Rattle.std.proofs.Common.{◌≡◌, ℕ, Bool, true, false, List, [], ◌∷◌, ◌++◌, Some, Ok, Err, refl, sym, ap, subst, ◌∙◌, append_assoc, inl}
 use Rattle.std.specs.Prelude.{if◌then◌else◌}
 use Rattle.mc_model.specs.message.Decree.{Decree, Delivered}
 use Rattle.mc_model.specs.synod.Lists.{In}
@@ -8,6 +8,7 @@ use Rattle.mc_model.specs.node.Input.{Grant, Response, Restart}
 use Rattle.mc_model.specs.node.Outcome.{Concluded}
 use Rattle.mc_model.specs.node.Outputs.{Outputs}
 use Rattle.mc_model.specs.cluster.Steps.{Cluster, setup_of}
+use Rattle.mc_parts.proofs.Membership.{in_right}
 use Rattle.node_model.specs.Stepped.{stepped_down, stepped_up}
 use Rattle.node_laws.specs.Clusters.{IsDeliveredBy, KeptCluster, LivesOn as LivesIn, MayHappen, NodeInput, StatesFinal, comes_to, kept_reached, step_at}
 use Rattle.node_laws.specs.Runs.{IsOneOf}
@@ -16,7 +17,7 @@ use Rattle.node_laws.proofs.cluster.Sources.{may_until}
 use Rattle.world.specs.declared.given.Given.{Given}
 use Rattle.world.specs.declared.step.Step.{Step}
 use Rattle.world.specs.Runs.{Comes, IsGiven, begin_anew, given_out}
-use Rattle.world_runs.specs.Traces.{Answer, BeginsAnew, CameInOneLife, DeliveriesStand, Event, HaltedOver, IsAnswered, IsGranted, Reaches}
+use Rattle.world_runs.specs.Traces.{Answer, BeginsAnew, CameInOneLife, DeliveriesStand, Event, HaltedOver, IsAnswered, IsGranted, LostNoneSince, Reaches}
 use Rattle.world_runs.specs.Traces.{StandsInTheRun, StandsOnAnAttempt, StartedOver, Tried, events_of, told_by}
 use Rattle.world_runs.proofs.Coming.{answered_by_step, granted_by_step}
 use Rattle.world_runs.proofs.Events.{CameBy, ReachesBy, StartsNone, brought_since, came_from_none, goes_on_by, passed, starts_each, starts_only}
@@ -75,7 +76,7 @@ module _ (cluster : Cluster) where
         let it = passed cluster inputs events (Tried step (Ok given)) (middle ++ inputs) r among in
         let next = it.until.goes_on.0 in
         let comes = subst (λ (s : Step). Comes cluster it.until.goes_on.1 (kept_reached cluster it.until.mid) s next) starts it.until.goes_on.2 in
-        lives 0 (subst (λ (x : NodeInput). In x middle) comes
+        lives comes.0 (subst (λ (x : NodeInput). In x middle) comes.1
         (brought_since cluster inputs it.before it.until.mid (next ∷ []) it.after (middle ++ inputs) middle it.until.reaches it.until.goes_on.4 refl
         next (inl refl)))
     lives_by inputs events middle one r lives (Tried step (Err fault)) among none = none
@@ -160,10 +161,17 @@ module _ (cluster : Cluster) where
       on_attempt older it.mid it.reaches told.0 id says.chain told.1
 
   pub deliveries_stand_in_run : (behind : List Packet) (inputs : List NodeInput) (steps : List Step) (answers : List Answer) (last : List NodeInput) →
-      Reaches cluster behind inputs steps answers last → MayHappen cluster last →
+      Reaches cluster behind inputs steps answers last → LostNoneSince inputs last → MayHappen cluster last →
       (older : List Event) (event : Event) (newer : List Event) (id : ℕ) → events_of steps answers ≡ older ++ event ∷ newer →
       (says : StatesFinal (told_by event) id Delivered) → StandsInTheRun cluster behind inputs older id says.chain
-  deliveries_stand_in_run behind inputs steps answers last r may older event newer id split says =
+  deliveries_stand_in_run behind inputs steps answers last r loses may older event newer id split says =
       let it = until_step cluster behind inputs steps answers older event newer last r split in
       let told = told_at it.mid event newer last it.goes_on may id says in
-      record { last = it.mid; reaches = it.reaches; stands = told.1 }
+      let more = goes_on_by cluster it.mid (event ∷ newer) last it.goes_on in
+      record {
+        last = it.mid;
+        reaches = it.reaches;
+        loses = λ node lost among.
+            loses node lost (subst (In (comes_to node (Restart lost))) (sym more.split) (in_right (comes_to node (Restart lost)) more.newer it.mid among));
+        stands = told.1;
+      }

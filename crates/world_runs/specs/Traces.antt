@@ -1,15 +1,16 @@
 -- What a list of steps of a world gave, as a run of the model's cluster (own).
-use Rattle.std.specs.Prelude.{◌≡◌, ℕ, ◌+◌, ◌≤◌, List, [], ◌∷◌, ◌++◌, length, map, take, zip, Some, None, Result, Ok, Err}
+use Rattle.std.specs.Prelude.{◌≡◌, ◌⊎◌, ℕ, ◌+◌, ◌≤◌, List, [], ◌∷◌, ◌++◌, length, map, take, zip, Some, None, Result, Ok, Err}
 use Rattle.mc_model.specs.message.Decree.{Attempt, Decree, Delivered, Fate, Final}
 use Rattle.mc_model.specs.message.Chain.{final_in}
 use Rattle.mc_model.specs.synod.Lists.{In}
 use Rattle.mc_model.specs.synod.Packet.{Packet, Slot, slot_of}
+use Rattle.mc_model.specs.node.Input.{Restart}
 use Rattle.mc_model.specs.node.Outputs.{Outputs}
 use Rattle.mc_model.specs.node.Replies.{Accepted, Answer as Told, Shown, Unknown}
 use Rattle.mc_model.specs.cluster.Steps.{Cluster}
 use Rattle.node_model.specs.Outputs.{nothing}
 use Rattle.node_laws.specs.Chosen.{WasVotedFor}
-use Rattle.node_laws.specs.Clusters.{GrantsOut, IsDeliveredBy, NodeInput, StatesFinal, kept_reached, step_at}
+use Rattle.node_laws.specs.Clusters.{GrantsOut, IsDeliveredBy, NodeInput, StatesFinal, comes_to, kept_reached, step_at}
 use Rattle.delivery.specs.declared.outcome.Outcome.TheVariants as outcomes
 use Rattle.desk.specs.declared.request.Request.{Request}
 use Rattle.world.specs.declared.fault.WorldFault.{WorldFault}
@@ -37,10 +38,15 @@ Reaches cluster behind inputs (step ∷ steps) (Ok given ∷ answers) last =
 Reaches cluster behind inputs (step ∷ steps) (Err fault ∷ answers) last =
     IsFault (refusal_of cluster (length behind) (kept_reached cluster inputs) step) fault × Reaches cluster behind inputs steps answers last
 
+-- no node that started anew since these inputs lost an incarnation
+abbrev pub LostNoneSince : List NodeInput → List NodeInput → Type 0
+LostNoneSince inputs last = (node lost : ℕ) → In (comes_to node (Restart lost)) last → In (comes_to node (Restart lost)) inputs ⊎ (lost ≡ 0)
+
 -- where the run leads, and that the world stands there
 pub record GoesTo (cluster : Cluster) (behind : List Packet) (inputs : List NodeInput) (steps : List Step) (answers : List Answer) (new : Scene) : Type 0 where
   pub last : List NodeInput
   pub reaches : Reaches cluster behind inputs steps answers last
+  pub loses : LostNoneSince inputs last
   pub at : IsAt cluster behind last new
 
 -- wherever the world stood in a run, the run goes on so
@@ -171,6 +177,7 @@ pub record StandsInTheRun (cluster : Cluster) (behind : List Packet) (inputs : L
     (chain : List Decree) : Type 0 where
   pub last : List NodeInput
   pub reaches : Reaches cluster behind inputs (steps_in events) (answers_in events) last
+  pub loses : LostNoneSince inputs last
   pub stands : IsDeliveredBy id chain last
 
 -- so wherever the world stood in a run
