@@ -5,7 +5,7 @@ use Rattle.std.specs.Prelude.{map, cond, nat_lt, nat_le, ◌==◌, ◌&&◌, if�
 use Rattle.std.proofs.lemmas.Bool.Decides.{nat_tests}
 use Rattle.mc_model.specs.synod.Lists.{In}
 use Rattle.mc_model.specs.synod.Packet.{Packet}
-use Rattle.mc_model.specs.node.Input.{Input}
+use Rattle.mc_model.specs.node.Input.{Input, Restart}
 use Rattle.mc_model.specs.node.Outputs.{Outputs}
 use Rattle.mc_model.specs.cluster.Steps.{Cluster, setup_of}
 use Rattle.mc_model.specs.cluster.World.{changed}
@@ -21,8 +21,8 @@ use Rattle.world.specs.declared.step.Step.TheVariants as steps
 use Rattle.world.specs.Runs.{Comes, IsGiven, away, node_at, or_else, refusal_of, unsent}
 use Rattle.world_runs.specs.Traces.{Answer, Reaches, events_of}
 use Rattle.world_runs.proofs.Events.{goes_on_by, reached_by}
-use Rattle.journal_laws.specs.Journals.{CameAsSent, Done, Entry, IsInRange, IsOwnRun, IsOwnStep, WereSent}
-use Rattle.journal_laws.specs.Journals.{comes_by, done_in, entries_at}
+use Rattle.journal_laws.specs.Journals.{CameAsSent, ComesBy, Done, Entry, IsInRange, IsOwnRun, IsOwnStep, WereSent}
+use Rattle.journal_laws.specs.Journals.{done_in, entries_at}
 use Rattle.journal_laws.specs.Joining.{IsListed, plainly}
 use Rattle.journal_laws.proofs.Running.{of_node, own_steps}
 
@@ -45,7 +45,7 @@ module _ (cluster : Cluster) (behind : ℕ) (w : KeptCluster) where
     pub input : Input
     pub next_is : next ≡ comes_to (node_at step) input
     pub packet : Option Packet
-    pub comes : comes_by (setup_of cluster (node_at step)) (w.kept (node_at step)) step packet ≡ Some input
+    pub comes : ComesBy (setup_of cluster (node_at step)) (w.kept (node_at step)) step packet input
     pub was : IfSome packet (CameAsSent behind w.packets step)
 
   brought : (step : Step) (next : NodeInput) → refusal_of cluster behind w step ≡ None → Comes cluster behind w step next → IsBrought step next
@@ -57,7 +57,8 @@ module _ (cluster : Cluster) (behind : ℕ) (w : KeptCluster) where
   brought (steps.Answered node slot outcome) next allowed came = record { input = _; next_is = came; packet = None; comes = refl; was = record {} }
   brought (steps.Crash node number found) next allowed came =
       record { input = _; next_is = came.2; packet = Some came.0; comes = refl; was = (has_number number node allowed, came.1) }
-  brought (steps.Restart node) next allowed came = record { input = _; next_is = came; packet = None; comes = refl; was = record {} }
+  brought (steps.Restart node) next allowed came =
+      record { input = Restart came.0; next_is = came.1; packet = None; comes = (came.0, refl); was = record {} }
 
 abbrev answer : Given → Answer
 answer given = Ok given
@@ -95,7 +96,7 @@ module _ (cluster : Cluster) (behind : List Packet) (last : List NodeInput) (may
     abbrev first : Done
     first = record { step = step; packet = packet; given = given; sent = outputs.packets }
 
-    abbrev own_first : comes_by (setup_of cluster node) (here node) step packet ≡ Some input → MayHappen cluster (next ∷ inputs) → IsGiven given outputs →
+    abbrev own_first : ComesBy (setup_of cluster node) (here node) step packet input → MayHappen cluster (next ∷ inputs) → IsGiven given outputs →
         IsOwnStep (setup_of cluster node) (here node) first
     own_first comes happens gives = record {
       input = input;
@@ -107,7 +108,7 @@ module _ (cluster : Cluster) (behind : List Packet) (last : List NodeInput) (may
     }
 
     -- each node's run begins one step earlier
-    own_more : (taken : List Done) → comes_by (setup_of cluster node) (here node) step packet ≡ Some input → MayHappen cluster (next ∷ inputs) →
+    own_more : (taken : List Done) → ComesBy (setup_of cluster node) (here node) step packet input → MayHappen cluster (next ∷ inputs) →
         IsGiven given outputs → (other : ℕ) →
         IsOwnRun (setup_of cluster other) ((kept_reached cluster (next ∷ inputs)).kept other) (of_node other taken) (ends other) →
         IsOwnRun (setup_of cluster other) (here other) (of_node other (first ∷ taken)) (ends other)
@@ -133,7 +134,7 @@ module _ (cluster : Cluster) (behind : List Packet) (last : List NodeInput) (may
             (subst (λ (b : Bool). IsOwnRun (setup_of cluster other) (if b then new else here other) (of_node other taken) (ends other)) apart later)
 
     -- one step more, in front
-    one_more : (later : List Step) (givens : List Given) → comes_by (setup_of cluster node) (here node) step packet ≡ Some input →
+    one_more : (later : List Step) (givens : List Given) → ComesBy (setup_of cluster node) (here node) step packet input →
         IfSome packet (CameAsSent (length behind) (kept_reached cluster inputs).packets step) → MayHappen cluster (next ∷ inputs) → IsGiven given outputs →
         Listed (next ∷ inputs) later givens → Listed inputs (step ∷ later) (given ∷ givens)
     one_more later givens comes was happens gives on = record {

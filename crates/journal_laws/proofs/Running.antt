@@ -1,5 +1,5 @@
 -- If each node's part of a journal is its own run, the whole is a run of the cluster.
-use Rattle.std.proofs.Common.{◌≡◌, ℕ, ◌+◌, ◌≤◌, Bool, true, false, List, [], ◌∷◌, ◌++◌, length, Option, Some, None, Result, Ok, Err, IfSome}
+use Rattle.std.proofs.Common.{◌≡◌, ℕ, ◌+◌, ◌<◌, ◌≤◌, Bool, true, false, List, [], ◌∷◌, ◌++◌, length, Option, Some, None, Result, Ok, Err, IfSome}
 use Rattle.std.proofs.Common.{refl, sym, ap, subst, ◌∙◌, inl, inr, arith, append_assoc, length-append, eqb-true, eq-eqb}
 use Rattle.std.specs.Prelude.{reverse, map, filter, option_map, is_some, not, cond, nat_le, nat_lt, ◌==◌, ◌&&◌, if◌then◌else◌}
 use Rattle.std.specs.List.{flat_map}
@@ -8,20 +8,17 @@ use Rattle.std.proofs.lemmas.List.{reverse-append}
 use Rattle.mc_model.specs.synod.Lists.{In}
 use Rattle.mc_model.specs.synod.Packet.{Packet}
 use Rattle.mc_model.specs.node.Actor.{Request}
-use Rattle.mc_model.specs.node.Input.{Crash, Delivery, Grant, Input, Response, Restart, Tick}
+use Rattle.mc_model.specs.node.Input.{Crash, Delivery, Input}
 use Rattle.mc_model.specs.node.Outputs.{Outputs}
 use Rattle.mc_model.specs.cluster.Steps.{Cluster, setup_of}
 use Rattle.mc_model.specs.cluster.World.{changed}
 use Rattle.mc_parts.proofs.Membership.{in_either}
 use Rattle.mc_laws.proofs.invariant.Growth.{changed_here}
-use Rattle.node_model.specs.Granted.{known_slot}
 use Rattle.node_model.specs.Kept.{Kept}
 use Rattle.node_laws.specs.Clusters.{KeptCluster, MayHappen, NodeInput, WasSentBefore, comes_to, kept_reached, step_at}
 use Rattle.node_laws.specs.Runs.{IsUpFor, MayCome}
 use Rattle.node_laws.proofs.cluster.Sources.{in_cut}
-use Rattle.delivery.specs.Kept.{outcome_kept}
-use Rattle.delivery.specs.Targets.{is_up}
-use Rattle.desk.specs.Arrivals.{judged_as, requested}
+use Rattle.desk.specs.Arrivals.{judged_as}
 use Rattle.node_core.specs.Attempting.{reason_of}
 use Rattle.node_core.specs.Stops.{is_after}
 use Rattle.pdu_tables.specs.declared.status.Status.{Status}
@@ -30,17 +27,14 @@ use Rattle.world.specs.declared.step.Step.{Step}
 use Rattle.world.specs.declared.step.Step.TheVariants as steps
 use Rattle.world.specs.Runs.{Comes, IsGiven, absent, away, node_at, or_else, refusal_of, last_incarnation, unsent}
 use Rattle.world_runs.specs.Traces.{Reaches}
-use Rattle.journal_laws.specs.Journals.{Done, Entry, IsJournal, IsInRange, HasItsNumber, IsOwnRun, RunsOn, Unfinished, CameAsSent, WereSent}
-use Rattle.journal_laws.specs.Journals.{comes_by, done_in, entries_at, outputs_done, steps_for, stop_of}
+use Rattle.journal_laws.specs.Journals.{ComesBy, Done, Entry, IsJournal, IsInRange, HasItsNumber, IsOwnRun, RunsOn, Unfinished, CameAsSent, WereSent}
+use Rattle.journal_laws.specs.Journals.{done_in, entries_at, outputs_done, steps_for, stop_of}
 
 -- ---- what comes by a step
 
--- what is told of what comes holds of it
-of_input : (P : Input → Type 0) (x input : Input) → Some x ≡ Some input → P input → P x
-of_input P x input same held = let is : x ≡ input = cc in subst P (sym is) held
-
-to_input : (P : Input → Type 0) (x input : Input) → Some x ≡ Some input → P x → P input
-to_input P x input same held = let is : x ≡ input = cc in subst P is held
+-- the input of a packet is what comes
+input_is : (x input : Input) → Some x ≡ Some input → input ≡ x
+input_is x input same = cc
 
 -- a request comes to a node that is up, and no packet by it
 up_judged : (k : Kept) (r : Result Request Status) → IsUpFor k (judged_as r) → k.up ≡ true
@@ -74,77 +68,64 @@ module _ (cluster : Cluster) (behind : ℕ) (w : KeptCluster) where
 
   -- what may come by a step is not refused
   not_refused : (step : Step) (packet : Option Packet) (input : Input) →
-      comes_by (setup_of cluster (node_at step)) (w.kept (node_at step)) step packet ≡ Some input →
+      ComesBy (setup_of cluster (node_at step)) (w.kept (node_at step)) step packet input →
       IsInRange cluster (node_at step) → IsUpFor (w.kept (node_at step)) input →
       MayCome (setup_of cluster (node_at step)) (w.kept (node_at step)) input → IfSome packet (CameAsSent behind w.packets step) →
       refusal_of cluster behind w step ≡ None
   not_refused (steps.Deliver number node) None input comes one up may sent = absurd cc
   not_refused (steps.Deliver number node) (Some packet) input comes one up may sent =
-      let here = at_work node one (of_input (IsUpFor (w.kept node)) (Delivery packet) input comes up) in
+      let here = at_work node one (subst (IsUpFor (w.kept node)) (input_is (Delivery packet) input comes) up) in
       λ i. or_else (was_sent number packet sent i) (here i)
   not_refused (steps.Request node account request) packet input comes one up may sent =
-      at_work node one
-      (up_judged (w.kept node) _ (of_input (IsUpFor (w.kept node)) (requested (setup_of cluster node) (w.kept node) account request) input comes up))
-  not_refused (steps.Tick node moment accounts) packet input comes one up may sent =
-      at_work node one (of_input (IsUpFor (w.kept node)) (Tick moment (is_up accounts.items)) input comes up)
+      at_work node one (up_judged (w.kept node) _ (subst (IsUpFor (w.kept node)) comes up))
+  not_refused (steps.Tick node moment accounts) packet input comes one up may sent = at_work node one (subst (IsUpFor (w.kept node)) comes up)
   not_refused (steps.Grant node id) packet input comes one up may sent =
-      let here = at_work node one (of_input (IsUpFor (w.kept node)) (Grant (known_slot (w.kept node) id)) input comes up) in
-      let allowed = of_input (MayCome (setup_of cluster node) (w.kept node)) (Grant (known_slot (w.kept node) id)) input comes may in
+      let here = at_work node one (subst (IsUpFor (w.kept node)) comes up) in
+      let allowed = subst (MayCome (setup_of cluster node) (w.kept node)) comes may in
       λ i. or_else (here i) (option_map (λ refusal. faults.Grant (reason_of refusal)) (allowed.allowed i))
   not_refused (steps.Answered node slot outcome) packet input comes one up may sent =
-      let here = at_work node one (of_input (IsUpFor (w.kept node)) (Response slot (outcome_kept outcome)) input comes up) in
-      let open_here = of_input (MayCome (setup_of cluster node) (w.kept node)) (Response slot (outcome_kept outcome)) input comes may in
+      let here = at_work node one (subst (IsUpFor (w.kept node)) comes up) in
+      let open_here = subst (MayCome (setup_of cluster node) (w.kept node)) comes may in
       λ i. or_else (here i) (if (open_here.granted i && not (is_some (open_here.closed i))) then None else Some faults.NotGranted)
   not_refused (steps.Crash node number found) None input comes one up may sent = absurd cc
   not_refused (steps.Crash node number found) (Some packet) input comes one up may sent =
-      let here = at_work node one (of_input (IsUpFor (w.kept node)) (Crash packet (is_after found)) input comes up) in
+      let here = at_work node one (subst (IsUpFor (w.kept node)) (input_is (Crash packet (is_after found)) input comes) up) in
       λ i. or_else (was_sent number packet sent i) (here i)
   not_refused (steps.Restart node) packet input comes one up may sent =
-      let below = of_input (MayCome (setup_of cluster node) (w.kept node)) (Restart 0) input comes may in
+      let below : (w.kept node).incarnation + comes.0 < 9999 = subst (MayCome (setup_of cluster node) (w.kept node)) comes.1 may in
       let left : nat_lt (w.kept node).incarnation last_incarnation ≡ true = grind (arith, nat_tests) in
       λ i. or_else (present node one i) (if left i then None else Some faults.Spent)
 
   -- it comes by a step of the world
   comes_so : (step : Step) (packet : Option Packet) (input : Input) →
-      comes_by (setup_of cluster (node_at step)) (w.kept (node_at step)) step packet ≡ Some input → IfSome packet (CameAsSent behind w.packets step) →
+      ComesBy (setup_of cluster (node_at step)) (w.kept (node_at step)) step packet input → IfSome packet (CameAsSent behind w.packets step) →
       Comes cluster behind w step (comes_to (node_at step) input)
   comes_so (steps.Deliver number node) None input comes sent = absurd cc
-  comes_so (steps.Deliver number node) (Some packet) input comes sent =
-      (packet, sent.1, to_input (λ x. comes_to node x ≡ comes_to node (Delivery packet)) (Delivery packet) input comes refl)
-  comes_so (steps.Request node account request) packet input comes sent =
-      let here : Input = requested (setup_of cluster node) (w.kept node) account request in
-      to_input (λ x. comes_to node x ≡ comes_to node here) here input comes refl
-  comes_so (steps.Tick node moment accounts) packet input comes sent =
-      let here : Input = Tick moment (is_up accounts.items) in to_input (λ x. comes_to node x ≡ comes_to node here) here input comes refl
-  comes_so (steps.Grant node id) packet input comes sent =
-      let here : Input = Grant (known_slot (w.kept node) id) in to_input (λ x. comes_to node x ≡ comes_to node here) here input comes refl
-  comes_so (steps.Answered node slot outcome) packet input comes sent =
-      let here : Input = Response slot (outcome_kept outcome) in to_input (λ x. comes_to node x ≡ comes_to node here) here input comes refl
+  comes_so (steps.Deliver number node) (Some packet) input comes sent = (packet, sent.1, ap (comes_to node) (input_is (Delivery packet) input comes))
+  comes_so (steps.Request node account request) packet input comes sent = ap (comes_to node) comes
+  comes_so (steps.Tick node moment accounts) packet input comes sent = ap (comes_to node) comes
+  comes_so (steps.Grant node id) packet input comes sent = ap (comes_to node) comes
+  comes_so (steps.Answered node slot outcome) packet input comes sent = ap (comes_to node) comes
   comes_so (steps.Crash node number found) None input comes sent = absurd cc
   comes_so (steps.Crash node number found) (Some packet) input comes sent =
-      let here : Input = Crash packet (is_after found) in
-      (packet, sent.1, to_input (λ x. comes_to node x ≡ comes_to node here) here input comes refl)
-  comes_so (steps.Restart node) packet input comes sent = to_input (λ x. comes_to node x ≡ comes_to node (Restart 0)) (Restart 0) input comes refl
+      (packet, sent.1, ap (comes_to node) (input_is (Crash packet (is_after found)) input comes))
+  comes_so (steps.Restart node) packet input comes sent = (comes.0, ap (comes_to node) comes.1)
 
   -- and its packet was sent
   packet_sent : (step : Step) (packet : Option Packet) (input : Input) →
-      comes_by (setup_of cluster (node_at step)) (w.kept (node_at step)) step packet ≡ Some input → IfSome packet (CameAsSent behind w.packets step) →
+      ComesBy (setup_of cluster (node_at step)) (w.kept (node_at step)) step packet input → IfSome packet (CameAsSent behind w.packets step) →
       WasSentBefore w.packets input
   packet_sent (steps.Deliver number node) None input comes sent = absurd cc
   packet_sent (steps.Deliver number node) (Some packet) input comes sent =
-      to_input (WasSentBefore w.packets) (Delivery packet) input comes (among_sent number packet sent)
-  packet_sent (steps.Request node account request) packet input comes sent =
-      to_input (WasSentBefore w.packets) (requested (setup_of cluster node) (w.kept node) account request) input comes (sent_judged w.packets _)
-  packet_sent (steps.Tick node moment accounts) packet input comes sent =
-      to_input (WasSentBefore w.packets) (Tick moment (is_up accounts.items)) input comes (record {})
-  packet_sent (steps.Grant node id) packet input comes sent =
-      to_input (WasSentBefore w.packets) (Grant (known_slot (w.kept node) id)) input comes (record {})
-  packet_sent (steps.Answered node slot outcome) packet input comes sent =
-      to_input (WasSentBefore w.packets) (Response slot (outcome_kept outcome)) input comes (record {})
+      subst (WasSentBefore w.packets) (sym (input_is (Delivery packet) input comes)) (among_sent number packet sent)
+  packet_sent (steps.Request node account request) packet input comes sent = subst (WasSentBefore w.packets) (sym comes) (sent_judged w.packets _)
+  packet_sent (steps.Tick node moment accounts) packet input comes sent = subst (WasSentBefore w.packets) (sym comes) (record {})
+  packet_sent (steps.Grant node id) packet input comes sent = subst (WasSentBefore w.packets) (sym comes) (record {})
+  packet_sent (steps.Answered node slot outcome) packet input comes sent = subst (WasSentBefore w.packets) (sym comes) (record {})
   packet_sent (steps.Crash node number found) None input comes sent = absurd cc
   packet_sent (steps.Crash node number found) (Some packet) input comes sent =
-      to_input (WasSentBefore w.packets) (Crash packet (is_after found)) input comes (among_sent number packet sent)
-  packet_sent (steps.Restart node) packet input comes sent = to_input (WasSentBefore w.packets) (Restart 0) input comes (record {})
+      subst (WasSentBefore w.packets) (sym (input_is (Crash packet (is_after found)) input comes)) (among_sent number packet sent)
+  packet_sent (steps.Restart node) packet input comes sent = subst (WasSentBefore w.packets) (sym comes.1) (record {})
 
 -- ---- steps of all nodes
 

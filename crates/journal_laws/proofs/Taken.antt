@@ -14,11 +14,11 @@ use Rattle.node_core.specs.Keeping.{kept_of}
 use Rattle.node_core.specs.Nodes.{HasTaken, Standing}
 use Rattle.node_core.specs.Outputs.{Outputs}
 use Rattle.node_core.specs.Steps.{input_of}
-use Rattle.journal_laws.specs.Journals.{IsOwnStep, comes_by}
+use Rattle.journal_laws.specs.Journals.{ComesBy, IsOwnStep}
 use Rattle.journal_laws.specs.Taken.{done_by, packet_in, step_of}
 
 comes_so : (setup : Setup) (k : Kept) (node number : ℕ) (input : Input) →
-    comes_by setup k (step_of node number input) (packet_in input) ≡ Some (input_of setup k input)
+    ComesBy setup k (step_of node number input) (packet_in input) (input_of setup k input)
 comes_so setup k node number (inputs.Packet packet) = refl
 comes_so setup k node number (inputs.Request account request) = refl
 comes_so setup k node number (inputs.Grant id) = refl

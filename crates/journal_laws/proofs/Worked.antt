@@ -77,7 +77,7 @@ module _ (quiet : ℕ → Given) (is : IsQuiet quiet) where
       (
         record { input = Crash propose true; comes = refl; up = refl; may = (refl, omega arith); gives = gave 0 []; count = (is 0).1 },
         (
-          record { input = Restart 0; comes = refl; up = record {}; may = omega arith; gives = gave 0 []; count = (is 0).1 },
+          record { input = Restart 0; comes = (0, refl); up = record {}; may = omega arith; gives = gave 0 []; count = (is 0).1 },
           (record { input = Delivery prepare; comes = refl; up = refl; may = record {}; gives = gave 1 (refused ∷ []); count = (is 1).1 }, refl),
         ),
       ),

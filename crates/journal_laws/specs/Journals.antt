@@ -69,15 +69,15 @@ entries_at node entries = filter (λ entry. node_at entry.done.step == node) ent
 
 -- ---- the run of one node
 
--- what comes to a node that keeps this
-abbrev pub comes_by : Setup → Kept → Step → Option Packet → Option Input
-comes_by setup k (steps.Deliver number node) packet = option_map Delivery packet
-comes_by setup k (steps.Request node account request) packet = Some (requested setup k account request)
-comes_by setup k (steps.Tick node moment up) packet = Some (Tick moment (is_up up.items))
-comes_by setup k (steps.Grant node id) packet = Some (Grant (known_slot k id))
-comes_by setup k (steps.Answered node slot outcome) packet = Some (Response slot (outcome_kept outcome))
-comes_by setup k (steps.Crash node number found) packet = option_map (λ came. Crash came (is_after found)) packet
-comes_by setup k (steps.Restart node) packet = Some (Restart 0)
+-- What comes to a node that keeps this: at a start anew any incarnations may be lost, by starts that failed.
+abbrev pub ComesBy : Setup → Kept → Step → Option Packet → Input → Type 0
+ComesBy setup k (steps.Deliver number node) packet input = option_map Delivery packet ≡ Some input
+ComesBy setup k (steps.Request node account request) packet input = input ≡ requested setup k account request
+ComesBy setup k (steps.Tick node moment up) packet input = input ≡ Tick moment (is_up up.items)
+ComesBy setup k (steps.Grant node id) packet input = input ≡ Grant (known_slot k id)
+ComesBy setup k (steps.Answered node slot outcome) packet input = input ≡ Response slot (outcome_kept outcome)
+ComesBy setup k (steps.Crash node number found) packet input = option_map (λ came. Crash came (is_after found)) packet ≡ Some input
+ComesBy setup k (steps.Restart node) packet input = (lost : ℕ) × (input ≡ Restart lost)
 
 abbrev pub outputs_done : Done → Outputs
 outputs_done done = record (given_out done.given) { packets = done.sent }
@@ -85,7 +85,7 @@ outputs_done done = record (given_out done.given) { packets = done.sent }
 -- what comes by it may come to the node, which gives out what stands there
 pub record IsOwnStep (setup : Setup) (k : Kept) (done : Done) : Type 0 where
   pub input : Input
-  pub comes : comes_by setup k done.step done.packet ≡ Some input
+  pub comes : ComesBy setup k done.step done.packet input
   pub up : IsUpFor k input
   pub may : MayCome setup k input
   pub gives : (stepped setup k input).outputs ≡ outputs_done done
