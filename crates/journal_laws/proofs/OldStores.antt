@@ -56,7 +56,7 @@ sent_on old sent (done ∷ later) were = (
 
 -- ---- nodes that start anew
 
-restart_step : (setup : Setup) (k : Kept) (lost : ℕ) → stepped setup k (Restart lost) ≡ leaves (restarted setup k lost)
+pub restart_step : (setup : Setup) (k : Kept) (lost : ℕ) → stepped setup k (Restart lost) ≡ leaves (restarted setup k lost)
 restart_step setup k lost = by_up k.up
   where
     by_up : (up : Bool) → (if up then leaves (restarted setup k lost) else leaves (restarted setup k lost)) ≡ leaves (restarted setup k lost)

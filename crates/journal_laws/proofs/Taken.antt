@@ -1,21 +1,33 @@
--- A step that a node of the code took is one of its own run.
-use Rattle.std.proofs.Common.{◌≡◌, ℕ, true, Some, Result, Ok, Err, refl, sym}
+-- What a node of the code did is of its own run: a step, and a start anew.
+use Rattle.std.proofs.Common.{◌≡◌, ℕ, suc, ◌+◌, ◌-◌, ◌<◌, true, [], Option, Some, None, Result, Ok, Err, refl, sym, ap, subst, ◌∙◌, arith}
 use Rattle.std.proofs.lemmas.List.{length-map}
+use Rattle.mc_model.specs.synod.Packet.{Packet}
 use Rattle.mc_model.specs.node.Actor.{Request}
+use Rattle.mc_model.specs.node.Input.{Restart}
 use Rattle.mc_model.specs.node.Setup.{Setup}
 use Rattle.node_model.specs.Kept.{Kept}
+use Rattle.node_model.specs.Outputs.{Stepped, nothing}
 use Rattle.node_laws.specs.Runs.{IsUpFor, MayCome}
 use Rattle.pdu_tables.specs.declared.status.Status.{Status}
 use Rattle.desk.specs.Arrivals.{judged_as}
+use Rattle.stable_store.specs.Stored.{AreSame, Stored}
 use Rattle.synod_acceptor.specs.Packets.{packet_of}
+use Rattle.synod_acceptor.specs.declared.packet.Packet.{Packet as Sent}
 use Rattle.node_core.specs.Input.{Input}
 use Rattle.node_core.specs.Input.TheVariants as inputs
+use Rattle.node_core.specs.declared.life.Life.{Life}
 use Rattle.node_core.specs.Keeping.{kept_of}
-use Rattle.node_core.specs.Nodes.{HasTaken, Standing}
+use Rattle.node_core.specs.Nodes.{HasOpened, HasTaken, Standing, records_in}
 use Rattle.node_core.specs.Outputs.{Outputs}
+use Rattle.node_core.specs.Restarts.{next_life}
 use Rattle.node_core.specs.Steps.{input_of}
-use Rattle.journal_laws.specs.Journals.{ComesBy, IsOwnStep}
-use Rattle.journal_laws.specs.Taken.{done_by, packet_in, step_of}
+use Rattle.node_core.specs.Stops.{IsTold, IsUnfinished}
+use Rattle.node_core.proofs.Restarts.{as_restarted}
+use Rattle.world.specs.declared.given.Given.{Given}
+use Rattle.world.specs.Runs.{IsGiven, given_out}
+use Rattle.journal_laws.specs.Journals.{ComesBy, IsOwnRun, IsOwnStep, steps_for}
+use Rattle.journal_laws.specs.Taken.{IsReopened, done_by, packet_in, started_anew, step_of}
+use Rattle.journal_laws.proofs.OldStores.{restart_step}
 
 comes_so : (setup : Setup) (k : Kept) (node number : ℕ) (input : Input) →
     ComesBy setup k (step_of node number input) (packet_in input) (input_of setup k input)
@@ -47,3 +59,59 @@ is_own_step old new number input outputs may taken = record {
   gives = sym taken.given;
   count = sym (length-map outputs.packets.items packet_of);
 }
+
+-- ---- a start anew
+
+-- by a step that leaves no output nothing is given out
+gives_none : (given : Given) → IsGiven given nothing → nothing ≡ record (given_out given) { packets = [] }
+gives_none given is i = record (sym is.others i) { packets = [] }
+
+-- a node that keeps this starts anew, however many incarnations are lost
+start_step : (setup : Setup) (k : Kept) (node lost : ℕ) (given : Given) (packet : Option Packet) → k.incarnation + lost < 9999 → IsGiven given nothing →
+    IsOwnStep setup k (started_anew node given packet)
+start_step setup k node lost given packet within gives = record {
+  input = Restart lost;
+  comes = (lost, refl);
+  up = record {};
+  may = within;
+  gives = ap (λ (s : Stepped). s.outputs) (restart_step setup k lost) ∙ gives_none given gives;
+  count = gives.packets;
+}
+
+module _ {S : Type 0} (stored : S → Stored) (old new : Standing S) (life : Life) (is : IsReopened stored old new life) where
+  abbrev k : Kept
+  k = kept_of old.kept
+
+  abbrev setup : Setup
+  setup = old.kept.setup
+
+  -- the incarnations between
+  abbrev lost : ℕ
+  lost = new.kept.incarnation - suc old.kept.incarnation
+
+  begins : new.kept.incarnation ≡ next_life k lost
+  begins = let later = is.later in omega (arith, later)
+
+  within : old.kept.incarnation + lost < 9999
+  within = let most = is.bounds.most in let next = begins in omega (arith, most, next)
+
+  opened : HasOpened setup (records_in new.kept) (next_life k lost) new life
+  opened = subst (λ (n : ℕ). HasOpened setup (records_in new.kept) n new life) begins is.opens.opened
+
+  -- ---- it tells of no save
+
+  same_records : new.stopped ≡ None → AreSame (records_in new.kept) k.records
+  same_records none =
+      by_packet old.unfinished (subst (IsTold old.kept (records_in new.kept) old.unfinished) none (is.told is.undoubted))
+      (is.left (records_in new.kept) (is.opens.found.found is.undoubted))
+    where
+      by_packet : (packet : Option Sent) → IsTold old.kept (records_in new.kept) packet None → IsUnfinished old.kept (records_in new.kept) packet →
+          AreSame (records_in new.kept) k.records
+      by_packet None told same = record { each = same.each }
+      by_packet (Some packet) told same = absurd told
+
+  pub starts_anew : (given : Given) → new.stopped ≡ None → IsGiven given nothing →
+      IsOwnRun setup k (steps_for (started_anew setup.node given None) None) (kept_of new.kept)
+  unfolding start_step
+  starts_anew given none gives =
+      (start_step setup k setup.node lost given None within gives, as_restarted setup k (records_in new.kept) lost new life is.lists (same_records none) opened)

@@ -1,14 +1,26 @@
--- A step that a node of the code took, as an entry has it (own).
-use Rattle.std.specs.Prelude.{ℕ, length, map, Option, Some, None}
+-- What a node of the code did, as an entry has it (own).
+use Rattle.std.specs.Prelude.{◌≡◌, ℕ, ◌<◌, [], length, map, Option, Some, None}
+use Rattle.mc_model.specs.message.Ids.{IsIncarnation}
+use Rattle.mc_model.specs.synod.Acceptor.{Records}
 use Rattle.mc_model.specs.synod.Packet.{Packet}
+use Rattle.node_model.specs.Outputs.{nothing}
+use Rattle.stable_store.specs.Stored.{Stored}
 use Rattle.synod_acceptor.specs.Packets.{packet_of}
 use Rattle.node_core.specs.Input.{Input}
 use Rattle.node_core.specs.Input.TheVariants as inputs
+use Rattle.node_core.specs.declared.life.Life.{Life}
+use Rattle.node_core.specs.Keeping.{kept_of}
+use Rattle.node_core.specs.Listing.{ListsRecorded}
+use Rattle.node_core.specs.Nodes.{OpensOver, Standing, records_in}
 use Rattle.node_core.specs.Outputs.{Outputs}
+use Rattle.node_core.specs.Stops.{IsTold, IsUnfinished}
 use Rattle.world.specs.declared.given.Given.{Given}
 use Rattle.world.specs.declared.step.Step.{Step}
 use Rattle.world.specs.declared.step.Step.TheVariants as steps
-use Rattle.journal_laws.specs.Journals.{Done}
+use Rattle.world.specs.Runs.{IsGiven}
+use Rattle.journal_laws.specs.Journals.{Done, IsOwnRun, steps_for}
+
+-- ---- a step
 
 -- a packet is named by its number
 abbrev pub step_of : ℕ → ℕ → Input → Step
@@ -39,3 +51,25 @@ done_by node number input outputs = record {
   given = given_of outputs;
   sent = map packet_of outputs.packets.items;
 }
+
+-- ---- a start anew
+
+-- A node was opened again over what its store had. What it lists, and what `reopen` ensures; and beside that the disk returned nothing that nobody wrote,
+-- and its incarnation is a later one.
+pub record IsReopened {S : Type 0} (stored : S → Stored) (old new : Standing S) (life : Life) : Type 0 where
+  pub lists : ListsRecorded (kept_of old.kept)
+  pub left : (left : Records) → (stored old.store).may_hold left → IsUnfinished old.kept left old.unfinished
+  pub opens : OpensOver (stored old.store) old.kept.setup (stored new.store) new life
+  pub told : (stored new.store).doubt ≡ 0 → IsTold old.kept (records_in new.kept) old.unfinished new.stopped
+  pub bounds : IsIncarnation new.kept.incarnation
+  pub undoubted : (stored new.store).doubt ≡ 0
+  pub later : old.kept.incarnation < new.kept.incarnation
+
+abbrev pub started_anew : ℕ → Given → Option Packet → Done
+started_anew node given packet = record { step = steps.Restart node; packet = packet; given = given; sent = [] }
+
+-- If it tells of no save, it started anew.
+abbrev pub StartsAnew : {S : Type 0} → (S → Stored) → Type 0
+StartsAnew {S} stored =
+    (old new : Standing S) (life : Life) (given : Given) → IsReopened stored old new life → new.stopped ≡ None → IsGiven given nothing →
+    IsOwnRun old.kept.setup (kept_of old.kept) (steps_for (started_anew old.kept.setup.node given None) None) (kept_of new.kept)

@@ -11,7 +11,7 @@ ghost use Rattle.node_core.specs.Nodes.{HasTaken, Standing};
 ghost use Rattle.node_core.specs.Outputs.{Outputs};
 ghost use Rattle.node_core.specs.Steps.{input_of};
 ghost use Rattle.node_laws.specs.Runs.{MayCome};
-ghost use Rattle.journal_laws.specs.Taken.{done_by};
+ghost use Rattle.journal_laws.specs.Taken.{StartsAnew, done_by};
 ghost use Rattle.journal_laws.specs.Journals.{Entry, IsJournal, IsOwnStep, RunsOn};
 ghost use Rattle.world.specs.declared.given.Given.{Given};
 ghost use Rattle.world.specs.declared.step.Step.{Step};
@@ -30,6 +30,8 @@ ghost use Rattle.journal_laws.specs.Telling.{
   TellOneFate,
 };
 
+use stable_store::StableStore;
+
 /// The journal of a cluster is a run of it: if each node's entries are its own run, and each packet that comes was sent before, then the run of the
 /// cluster goes on by the steps of all entries, in the order of the journal, with what they gave.
 pub fn a_journal_is_a_run()
@@ -42,6 +44,12 @@ pub fn a_step_of_a_node_is_its_own<S>()
     ensures { (old new : Standing S) (number : ℕ) (input : Input) (outputs : Outputs) →
         MayCome old.kept.setup (kept_of old.kept) (input_of old.kept.setup (kept_of old.kept) input) → HasTaken old input new outputs →
         IsOwnStep old.kept.setup (kept_of old.kept) (done_by old.kept.setup.node number input outputs) }
+{}
+
+/// A node that is opened again in a later incarnation, and tells of no save (`Node::stopped`), has started anew, which is a step of its own run: its entry
+/// names no save. Openings that failed before it may have taken any incarnations between.
+pub fn a_start_anew_of_a_node_is_its_own<S: StableStore>()
+    ensures { StartsAnew S.stored }
 {}
 
 /// A journal that begins where the run of another one leads is a part of one journal: both of them, one after the other. And each journal can be cut so, at
