@@ -1,13 +1,15 @@
--- What a node of the code did is of its own run: a step, and a start anew.
+-- What a node of the code did is of its own run: a step, a start anew, and a stop before it.
 use Rattle.std.proofs.Common.{◌≡◌, ℕ, suc, ◌+◌, ◌-◌, ◌<◌, true, [], Option, Some, None, Result, Ok, Err, refl, sym, ap, subst, ◌∙◌, arith}
 use Rattle.std.proofs.lemmas.List.{length-map}
 use Rattle.mc_model.specs.synod.Packet.{Packet}
 use Rattle.mc_model.specs.node.Actor.{Request}
-use Rattle.mc_model.specs.node.Input.{Restart}
+use Rattle.mc_model.specs.node.Input.{Crash, Restart}
 use Rattle.mc_model.specs.node.Setup.{Setup}
 use Rattle.node_model.specs.Kept.{Kept}
 use Rattle.node_model.specs.Outputs.{Stepped, nothing}
+use Rattle.node_model.specs.Stepped.{stepped}
 use Rattle.node_laws.specs.Runs.{IsUpFor, MayCome}
+use Rattle.node_laws.specs.Steps.{IsWellMade}
 use Rattle.pdu_tables.specs.declared.status.Status.{Status}
 use Rattle.desk.specs.Arrivals.{judged_as}
 use Rattle.stable_store.specs.Stored.{AreSame, Stored}
@@ -21,11 +23,12 @@ use Rattle.node_core.specs.Nodes.{HasOpened, HasTaken, Standing, records_in}
 use Rattle.node_core.specs.Outputs.{Outputs}
 use Rattle.node_core.specs.Restarts.{next_life}
 use Rattle.node_core.specs.Steps.{input_of}
-use Rattle.node_core.specs.Stops.{IsTold, IsUnfinished}
-use Rattle.node_core.proofs.Restarts.{as_restarted}
+use Rattle.node_core.specs.Stopped.{Stopped}
+use Rattle.node_core.specs.Stops.{IsTold, IsUnfinished, is_after}
+use Rattle.node_core.proofs.Restarts.{as_restarted, stop_lists, told_as}
 use Rattle.world.specs.declared.given.Given.{Given}
 use Rattle.world.specs.Runs.{IsGiven, given_out}
-use Rattle.journal_laws.specs.Journals.{ComesBy, IsOwnRun, IsOwnStep, steps_for}
+use Rattle.journal_laws.specs.Journals.{ComesBy, IsOwnRun, IsOwnStep, Unfinished, steps_for, stop_of}
 use Rattle.journal_laws.specs.Taken.{IsReopened, done_by, packet_in, started_anew, step_of}
 use Rattle.journal_laws.proofs.OldStores.{restart_step}
 
@@ -115,3 +118,46 @@ module _ {S : Type 0} (stored : S → Stored) (old new : Standing S) (life : Lif
   unfolding start_step
   starts_anew given none gives =
       (start_step setup k setup.node lost given None within gives, as_restarted setup k (records_in new.kept) lost new life is.lists (same_records none) opened)
+
+  -- ---- it tells of a save
+
+  module _ (told : Stopped) (tells : new.stopped ≡ Some told) where
+    abbrev packet : Packet
+    packet = packet_of told.packet
+
+    abbrev halted : Kept
+    halted = (stepped setup k (Crash packet (is_after told.found))).kept
+
+    kept_told : kept_of new.kept ≡ (stepped setup halted (Restart lost)).kept
+    kept_told = by_packet old.unfinished (subst (IsTold old.kept (records_in new.kept) old.unfinished) tells (is.told is.undoubted))
+      where
+        by_packet : (sent : Option Sent) → IsTold old.kept (records_in new.kept) sent (Some told) →
+            kept_of new.kept ≡ (stepped setup halted (Restart lost)).kept
+        by_packet None none = absurd cc
+        by_packet (Some sent) so =
+            subst (λ (p : Sent). kept_of new.kept ≡ (stepped setup (stepped setup k (Crash (packet_of p) (is_after told.found))).kept (Restart lost)).kept)
+            (sym so.is) (told_as old.kept (records_in new.kept) sent lost new life told is.lists opened so told.found refl)
+
+    within_halted : halted.incarnation + lost < 9999
+    within_halted =
+        subst (λ (n : ℕ). n + lost < 9999) (sym (stop_lists setup k packet (is_after told.found) is.lists).life) within
+
+    abbrev save : ℕ → Unfinished
+    save number = record { number = number; found = told.found }
+
+    stop_step : (given : Given) (number : ℕ) → IsWellMade packet → IsGiven given nothing →
+        IsOwnStep setup k (stop_of (started_anew setup.node given (Some packet)) (save number))
+    stop_step given number well gives = record {
+      input = Crash packet (is_after told.found);
+      comes = refl;
+      up = refl;
+      may = well;
+      gives = gives_none given gives;
+      count = gives.packets;
+    }
+
+    pub stops_and_starts_anew : (given : Given) (number : ℕ) → IsWellMade packet → IsGiven given nothing →
+        IsOwnRun setup k (steps_for (started_anew setup.node given (Some packet)) (Some (save number))) (kept_of new.kept)
+    unfolding stop_step start_step
+    stops_and_starts_anew given number well gives =
+        (stop_step given number well gives, (start_step setup halted setup.node lost given (Some packet) within_halted gives, kept_told))

@@ -4,6 +4,7 @@ use Rattle.mc_model.specs.message.Ids.{IsIncarnation}
 use Rattle.mc_model.specs.synod.Acceptor.{Records}
 use Rattle.mc_model.specs.synod.Packet.{Packet}
 use Rattle.node_model.specs.Outputs.{nothing}
+use Rattle.node_laws.specs.Steps.{IsWellMade}
 use Rattle.stable_store.specs.Stored.{Stored}
 use Rattle.synod_acceptor.specs.Packets.{packet_of}
 use Rattle.node_core.specs.Input.{Input}
@@ -13,6 +14,7 @@ use Rattle.node_core.specs.Keeping.{kept_of}
 use Rattle.node_core.specs.Listing.{ListsRecorded}
 use Rattle.node_core.specs.Nodes.{OpensOver, Standing, records_in}
 use Rattle.node_core.specs.Outputs.{Outputs}
+use Rattle.node_core.specs.Stopped.{Stopped}
 use Rattle.node_core.specs.Stops.{IsTold, IsUnfinished}
 use Rattle.world.specs.declared.given.Given.{Given}
 use Rattle.world.specs.declared.step.Step.{Step}
@@ -73,3 +75,12 @@ abbrev pub StartsAnew : {S : Type 0} → (S → Stored) → Type 0
 StartsAnew {S} stored =
     (old new : Standing S) (life : Life) (given : Given) → IsReopened stored old new life → new.stopped ≡ None → IsGiven given nothing →
     IsOwnRun old.kept.setup (kept_of old.kept) (steps_for (started_anew old.kept.setup.node given None) None) (kept_of new.kept)
+
+-- If it tells of the save of a packet, which has this number, it stopped in that save, and then started anew.
+abbrev pub StopsAndStartsAnew : {S : Type 0} → (S → Stored) → Type 0
+StopsAndStartsAnew {S} stored =
+    (old new : Standing S) (life : Life) (given : Given) (number : ℕ) (told : Stopped) → IsReopened stored old new life → new.stopped ≡ Some told →
+    IsWellMade (packet_of told.packet) → IsGiven given nothing →
+    IsOwnRun old.kept.setup (kept_of old.kept)
+    (steps_for (started_anew old.kept.setup.node given (Some (packet_of told.packet))) (Some (record { number = number; found = told.found })))
+    (kept_of new.kept)

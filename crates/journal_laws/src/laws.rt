@@ -11,7 +11,7 @@ ghost use Rattle.node_core.specs.Nodes.{HasTaken, Standing};
 ghost use Rattle.node_core.specs.Outputs.{Outputs};
 ghost use Rattle.node_core.specs.Steps.{input_of};
 ghost use Rattle.node_laws.specs.Runs.{MayCome};
-ghost use Rattle.journal_laws.specs.Taken.{StartsAnew, done_by};
+ghost use Rattle.journal_laws.specs.Taken.{StartsAnew, StopsAndStartsAnew, done_by};
 ghost use Rattle.journal_laws.specs.Journals.{Entry, IsJournal, IsOwnStep, RunsOn};
 ghost use Rattle.world.specs.declared.given.Given.{Given};
 ghost use Rattle.world.specs.declared.step.Step.{Step};
@@ -50,6 +50,12 @@ pub fn a_step_of_a_node_is_its_own<S>()
 /// names no save. Openings that failed before it may have taken any incarnations between.
 pub fn a_start_anew_of_a_node_is_its_own<S: StableStore>()
     ensures { StartsAnew S.stored }
+{}
+
+/// And if it tells of the save of a packet, it stopped in that save and then started anew, which are two steps of its own run: its entry names that save, by
+/// the number of the packet and by what was found.
+pub fn a_stop_of_a_node_is_its_own<S: StableStore>()
+    ensures { StopsAndStartsAnew S.stored }
 {}
 
 /// A journal that begins where the run of another one leads is a part of one journal: both of them, one after the other. And each journal can be cut so, at
