@@ -182,7 +182,7 @@ module _ (old : Centre) (w : World) (was : IsWorld old w) (node place number : �
       let it = numbers on.next on.comes in
       let sent = packet_is it.0 it.1 in
       let went = goes (suc place) old.world w runner.node (among_all old w place runner was found.1 none) step given left (input it.0) leads
-      (λ next comes.
+      (λ next comes loses.
       let other = numbers next comes in
       let same : other.0 ≡ it.0 = some_same (sym (packet_is other.0 other.1) ∙ sent) in
       other.2 ∙ (λ i. cluster_comes (here i) (input (same i)))) in

@@ -158,7 +158,7 @@ module _ (old mid : Centre) (node place : ℕ) (here : node ≡ suc place) where
       let site = found_too w.runners old.sites.items place runner (sym was.nodes) found.1 in
       let none = (was.each place site.0 runner site.1 found.1).taken in
       let went = goes (suc place) old.world w runner.node (among_all old w place runner was found.1 none) (steps.Restart node) given mid.world (Restart 0) leads
-      (λ next comes. comes ∙ ap (λ (n : ℕ). cluster_comes n (Restart 0)) here) in
+      (λ next comes loses. loses ∙ ap (λ (n : ℕ). cluster_comes n (Restart 0)) here) in
       let somebody : runner_at w node ≡ Some runner = ap (λ (n : ℕ). slice_get w.runners (pred n)) here ∙ found.1 in
       let more : nat_lt runner.node.kept.incarnation last_incarnation ≡ true =
       ap (λ (n : ℕ). nat_lt n last_incarnation) (same_life w was runner found.1) ∙ present.1 in

@@ -18,7 +18,7 @@ use Rattle.desk.specs.declared.request.Request.{Request}
 use Rattle.delivery.specs.Kept.{outcome_kept}
 use Rattle.delivery.specs.declared.outcome.Outcome.{Outcome}
 use Rattle.sim_net.specs.Network.{numbered}
-use Rattle.world.specs.Runs.{Comes, IsAt, IsGiven, Leads, StandsAs, leaves_up, node_at}
+use Rattle.world.specs.Runs.{Comes, IsAt, IsGiven, Leads, LosesNone, StandsAs, leaves_up, node_at}
 use Rattle.world.specs.Scenes.{Placed, Scene, clock_in, clock_of, is_up, is_up_in}
 use Rattle.world.specs.declared.fault.WorldFault.{WorldFault}
 use Rattle.world.specs.declared.given.Given.{Given}
@@ -89,7 +89,7 @@ module _ (home : ℕ) (scene : Scene) (w : World) (node : Node) (among : IsAmong
   now = kept_reached among.cluster among.inputs
 
   module _ (step : Step) (given : Given) (new : Scene) (input : Input) (leads : Leads scene step (Ok given) new)
-      (is_it : (next : NodeInput) → Comes among.cluster 0 now step next → next ≡ comes_to home input) where
+      (is_it : (next : NodeInput) → Comes among.cluster 0 now step next → LosesNone step next → next ≡ comes_to home input) where
     abbrev own : Stepped
     own = step_at node input
 
@@ -120,7 +120,7 @@ module _ (home : ℕ) (scene : Scene) (w : World) (node : Node) (among : IsAmong
     pub goes : IsAmong home new w (with_step node own) × IsGiven given own.outputs
     goes =
         let on = leads.each among.cluster [] among.inputs among.at in
-        let it = is_it on.next on.comes in (
+        let it = is_it on.next on.comes on.loses in (
           record {
             cluster = among.cluster;
             inputs = next ∷ among.inputs;
@@ -174,7 +174,7 @@ module _ (home : ℕ) (scene : Scene) (w : World) (node : Node) (going : IsGoing
   taken : (step : Step) (given : Given) (new : Scene) (input : Input) → Takes scene step given new → node_at step ≡ home → leaves_up step ≡ true →
       ((next : NodeInput) → Comes among.cluster 0 (kept_reached among.cluster among.inputs) step next → next ≡ comes_to home input) → Steps new given input
   taken step given new input takes there stays_up is_it =
-      let went = goes home scene w node among step given new input takes.leads is_it in
+      let went = goes home scene w node among step given new input takes.leads (λ next comes loses. is_it next comes) in
       (record { among = went.0; up = ap (is_up_in new) (sym there) ∙ takes.up ∙ stays_up }, went.1)
 
   -- ---- inputs of each kind
