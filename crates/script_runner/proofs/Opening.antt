@@ -1,5 +1,5 @@
 -- The nodes of the centre open, each over a new store, and no session is connected.
-use Rattle.std.proofs.Common.{◌≡◌, ℕ, zero, suc, ◌+◌, ◌≤◌, List, [], ◌∷◌, ◌++◌, length, map, Some, refl, sym, ap, subst, ◌∙◌, inl, inr, arith, length-append}
+use Rattle.std.proofs.Common.{◌≡◌, ℕ, zero, suc, ◌+◌, ◌≤◌, List, [], ◌∷◌, ◌++◌, length, Some, refl, sym, ap, subst, ◌∙◌, inl, inr, arith, length-append}
 use Rattle.std.specs.Prelude.{false, slice_get}
 use Rattle.sim_net.proofs.Growing.{get_push}
 use Rattle.node_laws.specs.Clusters.{cluster_with}

@@ -16,7 +16,6 @@ use Rattle.esme_service.specs.Service.{Service}
 use Rattle.esme_service.specs.Sessions.{account_at, kept_at}
 use Rattle.esme_service.specs.Settings.{Settings}
 use Rattle.esme_service.specs.declared.heard.Heard.{Heard}
-use Rattle.esme_service.specs.declared.heard.Heard.TheVariants as heards
 use Rattle.script_site.specs.Asking.{HasAsker}
 use Rattle.script_site.proofs.Serving.{account_so, itself_like}
 
