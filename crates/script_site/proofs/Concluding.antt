@@ -26,8 +26,10 @@ use Rattle.script_site.proofs.Stepping.{answer_goes, stays}
 
 module _ (home : ℕ) (slot : Slot) (outcome : Outcome) (old new : Scene) where
   by_open : (w : World) (node : Node) (is_so : Bool) → is_open node.kept slot ≡ is_so
-      → IsGoing home new w (if◌then◌else◌ {A = Went} is_so (went node (Response slot (outcome_kept outcome))) (rests node)).next → IsGoing home new w (concluded node slot (outcome_kept outcome)).next
-  by_open w node is_so is going = subst (λ (b : Bool). IsGoing home new w (if b then went node (Response slot (outcome_kept outcome)) else rests node).next) (sym is) going
+      → IsGoing home new w (if◌then◌else◌ {A = Went} is_so (went node (Response slot (outcome_kept outcome))) (rests node)).next
+      → IsGoing home new w (concluded node slot (outcome_kept outcome)).next
+  by_open w node is_so is going =
+      subst (λ (b : Bool). IsGoing home new w (if b then went node (Response slot (outcome_kept outcome)) else rests node).next) (sym is) going
 
   -- it was open
   pub concluded_so : (given : Given) → Takes old (steps.Answered home slot outcome) given new → Goes home (λ n. concluded n slot (outcome_kept outcome)) old new
