@@ -47,7 +47,8 @@ module _ (runner : Runner) (past : List Packet) (packet : Packet) (others : List
       (subst (λ (moved : Moved). GoesBeside (acted_behind others (on_delivery (given_out runner) packet)) moved) (sym came_is)
       (subst (λ (packets : List Packet). GoesBeside (acted_behind others (on_delivery (given_out runner) packet))
       (shared (record { runners = given_out runner ∷ []; packets = packets; came = came_then }) 1 (on_delivery (given_out runner) packet))) shift
-      (shared_beside runner (past ++ packet ∷ []) others came_then (one_more_came past came have_come packet) own (on_delivery (given_out runner) packet) alike.alone)))
+      (shared_beside runner (past ++ packet ∷ []) others came_then (one_more_came past came have_come packet) own
+      (on_delivery (given_out runner) packet) alike.alone)))
 
 module _ (nodes : List ℕ) (takes : takes_part nodes 1 ≡ true) where
   -- the runner settles so, and the world beside it
