@@ -4,6 +4,7 @@
 mod bind;
 mod bodies;
 mod cancel;
+mod comparing;
 mod copying;
 mod message;
 mod pdu;

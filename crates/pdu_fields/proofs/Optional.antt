@@ -77,10 +77,14 @@ pair_decides a b =
     (λ (h : a ≡ b). (ap (λ (x : ℕ × List ℕ). x.0) h, ap (λ (x : ℕ × List ℕ). x.1) h))
     (Decides-and (eqb a.0 b.0) (bytes_eq a.1 b.1) (Decides-eqb a.0 b.0) (bytes_eq-Decides a.1 b.1))
 
+-- the test of two lists of optional parameters is whether they are one
+pub tlvs_decide : (one other : List (ℕ × List ℕ)) → Decides (are_same_tlvs one other) (one ≡ other)
+tlvs_decide one other = slice_eq-Decides pair_decides one other (are_same_tlvs one other) refl
+
 -- optional parameters are the same that have the same octets
 pub same-octets : (one other : List ℕ) → AreTlvs one → AreTlvs other → bytes_eq one other ≡ are_same_tlvs (tlvs_in one) (tlvs_in other)
 same-octets one other one_are other_are =
-    let tlvs = slice_eq-Decides pair_decides (tlvs_in one) (tlvs_in other) (are_same_tlvs (tlvs_in one) (tlvs_in other)) refl in
+    let tlvs = tlvs_decide (tlvs_in one) (tlvs_in other) in
     let octets = Decides-like (bytes_eq one other) (λ (same : one ≡ other). ap tlvs_in same)
     (λ (same : tlvs_in one ≡ tlvs_in other). one_are.spelled ∙ ap optional_octets same ∙ sym other_are.spelled) (bytes_eq-Decides one other) in
     same_from_decides (bytes_eq one other) (are_same_tlvs (tlvs_in one) (tlvs_in other)) octets tlvs

@@ -4,6 +4,8 @@
 #[cfg(test)]
 mod cases;
 #[cfg(test)]
+mod comparing;
+#[cfg(test)]
 mod damaged_pdus;
 #[cfg(test)]
 mod full_vectors;
