@@ -1,6 +1,6 @@
 //! What nodes send to one another.
 
-ghost use Rattle.std.specs.Prelude.{◌≡◌, ◌&&◌, ◌==◌, IfOk, IsSome, OnErr};
+ghost use Rattle.std.specs.Prelude.{◌≡◌, ◌&&◌, ◌==◌, ◌↔◌, IfOk, IsSome, IsTrue, OnErr};
 ghost use Rattle.synod_acceptor.specs.Packets.{CarriesVote, packet_of};
 ghost use Rattle.synod_acceptor.specs.declared.packet.Packet.TheVariants as packets;
 
@@ -84,6 +84,113 @@ pub enum Packet {
 }
 
 impl Packet {
+    /// Whether it is the same packet as the other. It takes no memory.
+    pub fn is(&self, other: &Packet) -> bool
+        ensures { IsTrue result ↔ (self.now ≡ other.now) }
+    {
+        match self {
+            Packet::Prepare { from, slot, ballot } => other.is_prepare(*from, *slot, *ballot),
+            Packet::Promise {
+                from,
+                ballot,
+                report,
+            } => other.is_promise(*from, *ballot, report),
+            Packet::Propose { from, vote } => other.is_propose(*from, vote),
+            Packet::Voted { from, vote } => other.is_voted(*from, vote),
+            Packet::Refused {
+                from,
+                slot,
+                ballot,
+                promised,
+            } => other.is_refused(*from, *slot, *ballot, *promised),
+            Packet::Ask { from, id, name } => other.is_ask(*from, *id, *name),
+            Packet::Tell { from, name, told } => other.is_tell(*from, *name, told),
+        }
+    }
+
+    /// Whether it is this Prepare.
+    fn is_prepare(&self, sender: NodeNo, place: Slot, number: Ballot) -> bool
+        ensures { IsTrue result ↔ (self.now ≡ packets.Prepare sender place number) }
+    {
+        match self {
+            Packet::Prepare { from, slot, ballot } => *from == sender
+                && *slot == place
+                && *ballot == number,
+            _ => false,
+        }
+    }
+
+    /// Whether it is this Promise.
+    fn is_promise(&self, sender: NodeNo, number: Ballot, reported: &Report) -> bool
+        ensures { IsTrue result ↔ (self.now ≡ packets.Promise sender number reported.now) }
+    {
+        match self {
+            Packet::Promise {
+                from,
+                ballot,
+                report,
+            } => *from == sender && *ballot == number && report.is(reported),
+            _ => false,
+        }
+    }
+
+    /// Whether it is this Propose.
+    fn is_propose(&self, sender: NodeNo, cast: &Vote) -> bool
+        ensures { IsTrue result ↔ (self.now ≡ packets.Propose sender cast.now) }
+    {
+        match self {
+            Packet::Propose { from, vote } => *from == sender && vote.is(cast),
+            _ => false,
+        }
+    }
+
+    /// Whether it is this Voted.
+    fn is_voted(&self, sender: NodeNo, cast: &Vote) -> bool
+        ensures { IsTrue result ↔ (self.now ≡ packets.Voted sender cast.now) }
+    {
+        match self {
+            Packet::Voted { from, vote } => *from == sender && vote.is(cast),
+            _ => false,
+        }
+    }
+
+    /// Whether it is this Refused.
+    fn is_refused(&self, sender: NodeNo, place: Slot, number: Ballot, higher: Ballot) -> bool
+        ensures { IsTrue result ↔ (self.now ≡ packets.Refused sender place number higher) }
+    {
+        match self {
+            Packet::Refused {
+                from,
+                slot,
+                ballot,
+                promised,
+            } => { *from == sender && *slot == place && *ballot == number && *promised == higher },
+            _ => false,
+        }
+    }
+
+    /// Whether it is this Ask.
+    fn is_ask(&self, sender: NodeNo, message: MsgId, asked: Name) -> bool
+        ensures { IsTrue result ↔ (self.now ≡ packets.Ask sender message asked) }
+    {
+        match self {
+            Packet::Ask { from, id, name } => *from == sender && *id == message && *name == asked,
+            _ => false,
+        }
+    }
+
+    /// Whether it is this Tell.
+    fn is_tell(&self, sender: NodeNo, asked: Name, other: &Option<Vote>) -> bool
+        ensures { IsTrue result ↔ (self.now ≡ packets.Tell sender asked other.now) }
+    {
+        match self {
+            Packet::Tell { from, name, told } => *from == sender
+                && *name == asked
+                && is_told(told, other),
+            _ => false,
+        }
+    }
+
     /// The same packet once more. An `Err` is want of memory, which only a packet that carries a vote needs.
     pub fn copy(&self) -> Result<Packet, AllocError>
         ensures copy { IfOk result (λ copy. copy ≡ self.now) }
@@ -165,6 +272,17 @@ fn tell_copied(from: NodeNo, name: Name, told: &Option<Vote>) -> Result<Packet, 
         name,
         told: told_copied(told)?,
     })
+}
+
+/// Whether both are the same vote, or none.
+fn is_told(told: &Option<Vote>, other: &Option<Vote>) -> bool
+    ensures { IsTrue result ↔ (told.now ≡ other.now) }
+{
+    match (told, other) {
+        (Some(vote), Some(other)) => vote.is(other),
+        (None, None) => true,
+        _ => false,
+    }
 }
 
 /// The same vote once more, if there is one.

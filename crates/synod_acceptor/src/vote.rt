@@ -85,6 +85,17 @@ impl Report {
         }
     }
 
+    /// Whether it is the same report as the other: of the same slot that nothing was voted there, or of the same vote.
+    pub fn is(&self, other: &Report) -> bool
+        ensures { IsTrue result ↔ (self.now ≡ other.now) }
+    {
+        match (self, other) {
+            (Report::Nothing(slot), Report::Nothing(other)) => slot == other,
+            (Report::Held(vote), Report::Held(other)) => vote.is(other),
+            _ => false,
+        }
+    }
+
     /// The same report once more. It takes memory only for a vote.
     pub fn copy(&self) -> Result<Report, AllocError>
         ensures copy { IfOk result (λ report. report ≡ self.now) }

@@ -9,6 +9,8 @@ mod ballots;
 #[cfg(test)]
 mod learner;
 #[cfg(test)]
+mod packets;
+#[cfg(test)]
 mod proposer;
 #[cfg(test)]
 mod same;
