@@ -6,6 +6,8 @@ mod answers;
 #[cfg(test)]
 mod queues;
 #[cfg(test)]
+mod replies;
+#[cfg(test)]
 mod same;
 #[cfg(test)]
 mod turns;

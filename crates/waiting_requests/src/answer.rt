@@ -1,5 +1,6 @@
 //! Answers.
 
+ghost use Rattle.std.specs.Prelude.{◌≡◌, ◌↔◌, IsTrue};
 ghost use Rattle.waiting_requests.specs.Showing.{IsAbout};
 
 use fate_chain::Chain;
@@ -26,6 +27,25 @@ pub enum Answer {
     TooLate,
 }
 
+impl Answer {
+    /// Whether it is the same answer as the other: of the same kind, with the same chain. It takes no memory.
+    pub fn is(&self, other: &Answer) -> bool
+        ensures { IsTrue result ↔ (self.now ≡ other.now) }
+    {
+        match (self, other) {
+            (Answer::Shown(chain), Answer::Shown(other))
+            | (Answer::Removed(chain), Answer::Removed(other))
+            | (Answer::Kept(chain), Answer::Kept(other))
+            | (Answer::NotMatched(chain), Answer::NotMatched(other)) => chain.is(other),
+            (Answer::Accepted, Answer::Accepted)
+            | (Answer::NotOwner, Answer::NotOwner)
+            | (Answer::Unknown, Answer::Unknown)
+            | (Answer::TooLate, Answer::TooLate) => true,
+            _ => false,
+        }
+    }
+}
+
 /// The answer to the request of a ticket, about the message of an id. It shows no chain of another message.
 #[derive(Drop)]
 pub struct Reply {
@@ -33,4 +53,14 @@ pub struct Reply {
     pub id: MsgId,
     pub answer: Answer,
     pub ghost about: { IsAbout id answer },
+}
+
+impl Reply {
+    /// Whether it is the same reply as the other: to the request of the same ticket, with the same answer about the same id. It takes no
+    /// memory.
+    pub fn is(&self, other: &Reply) -> bool
+        ensures { IsTrue result ↔ (self.now ≡ other.now) }
+    {
+        self.ticket == other.ticket && self.id == other.id && self.answer.is(&other.answer)
+    }
 }
