@@ -1,6 +1,6 @@
 //! Requests and what they are answered.
 
-ghost use Rattle.std.specs.Prelude.{◌≡◌, IfOk};
+ghost use Rattle.std.specs.Prelude.{◌≡◌, ◌↔◌, IfOk, IsTrue};
 
 use mc_types::Moment;
 use pdu_codec::{Cancel, Message, Query, SystemId};
@@ -19,6 +19,20 @@ pub enum Request {
 }
 
 impl Request {
+    /// Whether it is the same request as the other, of what its PDU has and of its route. It takes no memory.
+    pub fn is(&self, other: &Request) -> bool
+        ensures { IsTrue result ↔ (self.now ≡ other.now) }
+    {
+        match (self, other) {
+            (Request::Submit(message, route), Request::Submit(other, way)) => {
+                message.is(other) && is_same_route(route, way)
+            }
+            (Request::Ask(query), Request::Ask(other)) => query.is(other),
+            (Request::Cancel(cancel), Request::Cancel(other)) => cancel.is(other),
+            _ => false,
+        }
+    }
+
     /// The same once more. An `Err` is want of memory.
     pub fn copy(&self) -> Result<Request, AllocError>
         ensures { IfOk result (λ copy. copy ≡ self.now) }
@@ -30,6 +44,17 @@ impl Request {
             Request::Ask(query) => Ok(Request::Ask(query.copy()?)),
             Request::Cancel(cancel) => Ok(Request::Cancel(cancel.copy()?)),
         }
+    }
+}
+
+/// Whether both routes lead to the same account, or to none.
+fn is_same_route(one: &Option<SystemId>, other: &Option<SystemId>) -> bool
+    ensures { IsTrue result ↔ (one.now ≡ other.now) }
+{
+    match (one, other) {
+        (Some(account), Some(other)) => account.octets() == other.octets(),
+        (None, None) => true,
+        _ => false,
     }
 }
 

@@ -216,3 +216,32 @@ fn requests_are_copied(rt: HostRuntime) {
     assert_copied(&rt, rt.alloc(), Asked::Query(FIRST, b"144"));
     assert_copied(&rt, rt.alloc(), Asked::Cancel(FIRST, b"144", b"155"));
 }
+
+// No two of them are the same request.
+const APART: &[Asked] = &[
+    Asked::Submit(0),
+    Asked::Submit(1),
+    Asked::Unrouted(0),
+    Asked::Query(FIRST, b"144"),
+    Asked::Query(FIRST, b"145"),
+    Asked::Cancel(FIRST, b"144", b""),
+    Asked::Cancel(FIRST, b"144", b"155"),
+];
+
+// That the request of this number is itself, and none of the others.
+fn assert_itself_alone(rt: &impl Abort, alloc: Global, number: usize, asked: &Request) {
+    for (place, one) in APART.iter().enumerate() {
+        let other = request(rt, alloc, *one);
+        let is = asked.is(&other);
+        drop(other);
+        assert_same(rt, &(number, place, is), &(number, place, number == place));
+    }
+}
+
+#[test]
+fn each_request_is_itself_alone(rt: HostRuntime) {
+    for (number, asked) in APART.iter().enumerate() {
+        let asked = request(&rt, rt.alloc(), *asked);
+        assert_itself_alone(&rt, rt.alloc(), number, &asked);
+    }
+}
