@@ -2,6 +2,7 @@
 #![tactic(auto)]
 
 mod attempts;
+mod comparing;
 mod copies;
 mod fault;
 mod grant_refusal;

@@ -1,9 +1,10 @@
 //! What a step gives out.
 
-ghost use Rattle.std.specs.Prelude.{◌≡◌, [], ◌++◌, None, Some, IfOk, OnOk};
+ghost use Rattle.std.specs.Prelude.{◌≡◌, ◌↔◌, [], ◌++◌, None, Some, IfOk, IsTrue, OnOk};
 ghost use Rattle.node_parts.specs.Copies.{AreAlike};
 ghost use Rattle.node_parts.specs.Lists.{listed};
 
+use crate::comparing::{are_same, is_same_grant};
 use crate::copies::{chains_copied, packets_copied, replies_copied};
 use fate_chain::Chain;
 use pdu_tables::Status;
@@ -84,6 +85,18 @@ impl Outputs {
             receipts: Vec::new(alloc),
             granted: Some(chain),
         }
+    }
+
+    /// Whether the other outputs are alike: what they have is the same, in the same order. It takes no memory.
+    pub fn is(&self, other: &Outputs) -> bool
+        ensures { IsTrue result ↔ AreAlike self.now other.now }
+    {
+        self.ticket == other.ticket
+            && self.refused == other.refused
+            && are_same(&self.packets, &other.packets)
+            && are_same(&self.replies, &other.replies)
+            && are_same(&self.receipts, &other.receipts)
+            && is_same_grant(&self.granted, &other.granted)
     }
 
     /// The same outputs once more. An `Err` is want of memory.

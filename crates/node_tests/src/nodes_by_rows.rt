@@ -95,6 +95,40 @@ fn what_is_prepared_goes_out_and_changes_nothing_before(rt: HostRuntime) {
     assert_same(&rt, &answers, &(voted, voted));
 }
 
+// Whether a node would give out the same at one line as at another.
+fn alike_at(
+    rt: &impl Abort,
+    alloc: Global,
+    node: &Node<ListStore>,
+    one: &str,
+    other: &str,
+) -> bool {
+    let one = node
+        .prepare_step(input(rt, alloc, one))
+        .expect(rt, "a step");
+    let other = node
+        .prepare_step(input(rt, alloc, other))
+        .expect(rt, "a step");
+    let alike = one.outputs().is(other.outputs());
+    drop(one);
+    drop(other);
+    alike
+}
+
+#[test]
+fn what_goes_out_is_compared_with_other_outputs(rt: HostRuntime) {
+    let alloc = rt.alloc();
+    let (node, _life) = opened(&rt, alloc, second(&rt));
+    let alike = [
+        alike_at(&rt, alloc, &node, "propose 1 262161", "propose 1 262161"),
+        alike_at(&rt, alloc, &node, "propose 1 262161", "propose 1 262162"),
+        alike_at(&rt, alloc, &node, "query", "query"),
+        alike_at(&rt, alloc, &node, "query", "submit_nowhere"),
+    ];
+    drop(node);
+    assert_same(&rt, &alike, &[true, false, true, false]);
+}
+
 #[test]
 fn a_node_is_one_of_its_cluster(rt: HostRuntime) {
     let refused = (
