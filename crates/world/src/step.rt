@@ -1,6 +1,6 @@
 //! What happens in a world.
 
-ghost use Rattle.std.specs.Prelude.{◌≡◌, IfOk};
+ghost use Rattle.std.specs.Prelude.{◌≡◌, ◌↔◌, IfOk, IsTrue};
 ghost use Rattle.world.specs.Copies.{IsCopy};
 ghost use Rattle.world.specs.declared.step.Step.TheVariants as steps;
 
@@ -57,6 +57,117 @@ pub enum Step {
 }
 
 impl Step {
+    /// Whether the other is the same step; of a tick, with the same accounts in the same order. It takes no memory.
+    pub fn is(&self, other: &Step) -> bool
+        ensures { IsTrue result ↔ IsCopy self.now other.now }
+    {
+        match self {
+            Step::Deliver { number, node } => other.is_delivery(*number, *node),
+            Step::Request {
+                node,
+                account,
+                request,
+            } => other.is_request(*node, account, request),
+            Step::Tick { node, moment, up } => other.is_tick(*node, *moment, up),
+            Step::Grant { node, id } => other.is_grant(*node, *id),
+            Step::Answered {
+                node,
+                slot,
+                outcome,
+            } => other.is_answer(*node, *slot, *outcome),
+            Step::Crash {
+                node,
+                number,
+                found,
+            } => other.is_crash(*node, *number, *found),
+            Step::Restart { node } => other.is_restart(*node),
+        }
+    }
+
+    /// Whether it is this Deliver.
+    fn is_delivery(&self, packet: u64, at: NodeNo) -> bool
+        ensures { IsTrue result ↔ (self.now ≡ steps.Deliver packet at) }
+    {
+        match self {
+            Step::Deliver { number, node } => *number == packet && *node == at,
+            _ => false,
+        }
+    }
+
+    /// Whether it is this Request.
+    fn is_request(&self, at: NodeNo, sender: &SystemId, asked: &Request) -> bool
+        ensures { IsTrue result ↔ (self.now ≡ steps.Request at sender.now asked.now) }
+    {
+        match self {
+            Step::Request {
+                node,
+                account,
+                request,
+            } => { *node == at && account.octets() == sender.octets() && request.is(asked) }
+            _ => false,
+        }
+    }
+
+    /// Whether it is this Tick.
+    fn is_tick(&self, at: NodeNo, then: Moment, accounts: &Vec<SystemId>) -> bool
+        ensures { IsTrue result ↔ IsCopy (steps.Tick at then accounts.now) self.now }
+    {
+        match self {
+            Step::Tick { node, moment, up } => *node == at
+                && *moment == then
+                && are_same(up, accounts),
+            _ => false,
+        }
+    }
+
+    /// Whether it is this Grant.
+    fn is_grant(&self, at: NodeNo, message: MsgId) -> bool
+        ensures { IsTrue result ↔ (self.now ≡ steps.Grant at message) }
+    {
+        match self {
+            Step::Grant { node, id } => *node == at && *id == message,
+            _ => false,
+        }
+    }
+
+    /// Whether it is this Answered.
+    fn is_answer(&self, at: NodeNo, attempt: Slot, came: Outcome) -> bool
+        ensures { IsTrue result ↔ (self.now ≡ steps.Answered at attempt came) }
+    {
+        match self {
+            Step::Answered {
+                node,
+                slot,
+                outcome,
+            } => *node == at && *slot == attempt && *outcome == came,
+            _ => false,
+        }
+    }
+
+    /// Whether it is this Crash.
+    fn is_crash(&self, at: NodeNo, packet: u64, left: Found) -> bool
+        ensures { IsTrue result ↔ (self.now ≡ steps.Crash at packet left) }
+    {
+        match self {
+            Step::Crash {
+                node,
+                number,
+                found,
+            } => *node == at && *number == packet && *found == left,
+            _ => false,
+        }
+    }
+
+    /// Whether it is this Restart.
+    fn is_restart(&self, at: NodeNo) -> bool
+        ensures { IsTrue result ↔ (self.now ≡ steps.Restart at) }
+    {
+        match self {
+            Step::Restart { node } => *node == at,
+            _ => false,
+        }
+    }
+
     /// The same step once more. An `Err` is want of memory.
     pub fn copy(&self) -> Result<Step, AllocError>
         ensures { IfOk result (IsCopy self.now) }
@@ -97,6 +208,13 @@ impl Step {
             Step::Restart { node } => Step::Restart { node: *node },
         })
     }
+}
+
+/// Whether these accounts are the others, in the same order.
+fn are_same(accounts: &[SystemId], others: &[SystemId]) -> bool
+    ensures { IsTrue result ↔ (accounts.now ≡ others.now) }
+{
+    accounts == others
 }
 
 /// The same request of an account once more.

@@ -217,6 +217,23 @@ fn steps_of(rt: &impl Abort, alloc: Global, comes: &[Comes]) -> Vec<Step> {
     steps
 }
 
+// That the step of this number among some is itself, and none of the others.
+pub fn assert_itself_alone(
+    rt: &impl Abort,
+    alloc: Global,
+    steps: &[Comes],
+    number: usize,
+    comes: Comes,
+) {
+    let step = step_of(rt, alloc, comes);
+    for (place, one) in steps.iter().enumerate() {
+        let other = step_of(rt, alloc, *one);
+        let is = step.is(&other);
+        drop(other);
+        assert_same(rt, &(number, place, is), &(number, place, number == place));
+    }
+}
+
 // What a list of steps gives in a world of so many nodes.
 fn trace_of(rt: &impl Abort, alloc: Global, nodes: u8, comes: &[Comes]) -> Trace {
     let mut world = world(rt, alloc, nodes);

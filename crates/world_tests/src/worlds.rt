@@ -2,7 +2,7 @@
 //! three Voted, packets 1 to 8.
 
 use crate::same::assert_same;
-use crate::walks::{Answer, Comes, Row, Said, assert_walk};
+use crate::walks::{Answer, Comes, Row, Said, assert_itself_alone, assert_walk};
 use node_core::{Found, GrantRefusal};
 use std::alloc::Global;
 use world::{StartFault, World, WorldFault};
@@ -137,4 +137,30 @@ fn a_world_has_one_to_nine_nodes(rt: HostRuntime) {
         None,
     ];
     assert_same(&rt, &faults, &wanted);
+}
+
+// No two of them are the same step.
+const APART: &[Comes] = &[
+    Comes::Asks(1, "query"),
+    Comes::Asks(2, "query"),
+    Comes::Asks(1, "cancel"),
+    Comes::Ticks(1, NOON),
+    Comes::Ticks(1, 1_706_659_201),
+    Comes::Grants(1),
+    Comes::Grants(2),
+    Comes::GoesUnanswered(1),
+    Comes::GoesUnanswered(2),
+    Comes::Delivers(1, 2),
+    Comes::Delivers(2, 1),
+    Comes::Crashes(1, 1, Found::Before),
+    Comes::Crashes(1, 1, Found::After),
+    Comes::Restarts(1),
+    Comes::Restarts(2),
+];
+
+#[test]
+fn each_step_is_itself_alone(rt: HostRuntime) {
+    for (number, comes) in APART.iter().enumerate() {
+        assert_itself_alone(&rt, rt.alloc(), APART, number, *comes);
+    }
 }
