@@ -4,8 +4,10 @@ ghost use Rattle.std.specs.Prelude.{◌≡◌, ◌≢◌, ◌↔◌, ◌⊎◌, 
 ghost use Rattle.mc_model.specs.synod.Acceptor.{Records};
 ghost use Rattle.mc_model.specs.message.Ids.{IsIncarnation, IsNode};
 ghost use Rattle.node_parts.specs.declared.fault.StepFault.TheVariants.{Broken, Device, Memory};
+ghost use Rattle.node_parts.specs.declared.input.Input.TheVariants as inputs;
 ghost use Rattle.std.specs.Option.{option_copied};
 ghost use Rattle.stable_store.specs.Stored.{GoesOn, HasFailed, KeepsStarted, Stays};
+ghost use Rattle.node_kept.specs.Granting.{IsLeastAbove};
 ghost use Rattle.node_kept.specs.Idling.{FindsNothing};
 ghost use Rattle.node_kept.specs.Keeping.{kept_of};
 ghost use Rattle.node_kept.specs.Listing.{ListsRecorded};
@@ -19,7 +21,7 @@ ghost use Rattle.node_core.specs.Nodes.{HasStopped, HasTaken, IsAwaited, IsLeft,
 use crate::life::Life;
 use crate::open::begin;
 use crate::pending::Pending;
-use mc_types::Moment;
+use mc_types::{Moment, MsgId};
 use node_kept::{Foreseen, Kept, Step, Stopped, told};
 use node_parts::{Input, Outputs, StepFault};
 use pdu_codec::SystemId;
@@ -163,6 +165,17 @@ impl<S: StableStore> Node<S> {
         self.kept.install(next);
         self.idle = idle;
         outputs
+    }
+
+    /// The lowest id above this one, or of all ids, of the messages whose attempt the node would grant now; none if there is none, and if the
+    /// node is Broken. It takes no memory.
+    pub fn grantable_after(&self, after: Option<MsgId>) -> Option<MsgId>
+        ensures { IsLeastAbove after (λ id. fault_in self.now (inputs.Grant id) ≡ None) result }
+    {
+        if self.broken {
+            return None;
+        }
+        self.kept.grantable_after(after)
     }
 
     /// Whether a life is this node's, in its incarnation. It takes no memory.

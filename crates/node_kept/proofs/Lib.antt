@@ -4,6 +4,7 @@ pub mod Queueing
 pub mod Answering
 pub mod Leaving
 pub mod Grants
+pub mod Grantable
 pub mod Tells
 pub mod Knowing
 pub mod Arrivals

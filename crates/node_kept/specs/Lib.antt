@@ -15,3 +15,4 @@ pub mod Arriving
 pub mod Ticking
 pub mod Walking
 pub mod Idling
+pub mod Granting

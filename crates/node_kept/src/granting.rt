@@ -1,12 +1,13 @@
 //! What a node does if an attempt is asked for, and if what came of one comes.
 
-ghost use Rattle.std.specs.Prelude.{◌≡◌, ◌≤◌, true, None, Some, IfErr, IfOk, IfSome, option_map, if◌then◌else◌};
+ghost use Rattle.std.specs.Prelude.{◌≡◌, ◌≤◌, ◌↔◌, true, None, Some, IfErr, IfOk, IfSome, IsTrue, option_map, if◌then◌else◌};
 ghost use Rattle.delivery.specs.Kept.{outcome_kept};
 ghost use Rattle.node_model.specs.Attempts.{grant_refusal, on_grant, on_response};
 ghost use Rattle.node_model.specs.Kept.{message_at};
 ghost use Rattle.node_model.specs.Granted.{is_open, known_slot};
 ghost use Rattle.node_parts.specs.Attempting.{reason_of};
 ghost use Rattle.node_parts.specs.declared.fault.StepFault.TheVariants.{Grant, NotGranted};
+ghost use Rattle.node_kept.specs.Granting.{IsLeastAbove};
 ghost use Rattle.node_kept.specs.Keeping.{AreOwn, kept_of};
 ghost use Rattle.node_kept.specs.Steps.{IsFault, IsKnown, IsStep};
 
@@ -49,6 +50,31 @@ impl Kept {
             Some(message) => message.attempt(id, self.author()),
             None => Err(GrantRefusal::NotChosen),
         }
+    }
+
+    /// The lowest id above this one, or of all ids, of the messages whose attempt could be granted now; none if there is none. It looks at the
+    /// messages that are live alone, since a final state is known of any other. It takes no memory.
+    pub fn grantable_after(&self, after: Option<MsgId>) -> Option<MsgId>
+        ensures { IsLeastAbove after (λ id. grant_refusal self.now.setup (kept_of self.now) id ≡ None) result }
+    {
+        let mut from = match after {
+            Some(id) => id.number() + 1,
+            None => 0,
+        };
+        while let Some(id) = self.messages.next_live(from) {
+            if self.is_grantable(id) {
+                return Some(id);
+            }
+            from = id.number() + 1;
+        }
+        None
+    }
+
+    /// Whether the attempt of a message could be granted now. It takes no memory.
+    fn is_grantable(&self, id: MsgId) -> bool
+        ensures { IsTrue result ↔ (grant_refusal self.now.setup (kept_of self.now) id ≡ None) }
+    {
+        self.attempt(id).is_ok()
     }
 
     /// The step that closes the attempt in a slot with what came of it, and decides that. NotGranted, if the attempt is not open, comes

@@ -5,6 +5,7 @@ use crate::walks::{alone, assert_part, opened, second};
 use delivery::Outcome;
 use fate_chain::Chain;
 use lines_of_tests::{first_id, put_back};
+use mc_types::MsgId;
 use node_core::{GrantRefusal, Input, Life, Node, Outputs, Permit, StepFault};
 use pdu_tables::State;
 use stable_store::ListStore;
@@ -143,4 +144,38 @@ fn a_permit_is_worth_nothing_at_another_node(rt: HostRuntime) {
     let spent = spent_at(&rt, rt.alloc(), &mut other);
     drop(other);
     assert_same(&rt, &spent, &Some(StepFault::NotGranted));
+}
+
+// Two submit_sms are taken, and the first attempt of each is chosen.
+const TWO_ATTEMPTS: &str = "\
+two attempts are chosen
+submit_with_receipt => Waits 1
+submit_with_receipt => Waits 2
+back => Accepted 2 1000100002
+tick 946684800 sme1 => Other
+back => Nothing";
+
+// The numbers of the first two messages whose attempt could be granted.
+fn grantable(node: &Node<ListStore>) -> [Option<u64>; 2] {
+    let first = node.grantable_after(None);
+    let second = match first {
+        Some(_) => node.grantable_after(first),
+        None => None,
+    };
+    [first.map(MsgId::number), second.map(MsgId::number)]
+}
+
+#[test]
+fn an_attempt_is_found_until_it_is_granted(rt: HostRuntime) {
+    let alloc = rt.alloc();
+    let (mut node, life) = opened(&rt, alloc, alone(&rt));
+    let before = grantable(&node);
+    assert_part(&rt, alloc, &mut node, TWO_ATTEMPTS);
+    let chosen = grantable(&node);
+    let refused = why_not(&rt, &mut node, &life);
+    let left = grantable(&node);
+    drop(node);
+    let both = [Some(1000100001), Some(1000100002)];
+    assert_same(&rt, &(before, chosen), &([None, None], both));
+    assert_same(&rt, &(refused, left), &(None, [Some(1000100002), None]));
 }
