@@ -581,7 +581,8 @@ answered_keep number stream runner node input sound held plain = record {
           ap (λ (a : Answer). (reply_pdu request.requested request.sequence reply.id a).status) removed.1,
         )
 
-pub delivery_keep : (number : ℕ) (stream : List ℕ) (runner : Runner) (packet : Packet) → Hears number stream runner → Keeps number stream (on_delivery runner packet)
+pub delivery_keep : (number : ℕ) (stream : List ℕ) (runner : Runner) (packet : Packet) → Hears number stream runner →
+    Keeps number stream (on_delivery runner packet)
 delivery_keep number stream runner packet hears =
     let node = runner.node in
     let step = step_at node (Comes packet) in
