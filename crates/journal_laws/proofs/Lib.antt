@@ -3,6 +3,9 @@ pub mod Joining
 pub mod Taken
 pub mod Listing
 pub mod OldStores
+pub mod Likeness
+pub mod Growing
+pub mod Parts
 pub mod Entries
 pub mod Refusing
 pub mod Telling

@@ -46,7 +46,7 @@ came_on old sent (steps.Grant node id) (Some packet) was = record {}
 came_on old sent (steps.Answered node slot outcome) (Some packet) was = record {}
 came_on old sent (steps.Restart node) (Some packet) was = record {}
 
-sent_on : (old sent : List Packet) (taken : List Done) → WereSent 0 sent taken → WereSent (length old) (sent ++ old) taken
+pub sent_on : (old sent : List Packet) (taken : List Done) → WereSent 0 sent taken → WereSent (length old) (sent ++ old) taken
 sent_on old sent [] were = record {}
 sent_on old sent (done ∷ later) were = (
   came_on old sent done.step done.packet were.0,

@@ -44,7 +44,7 @@ judged_up : (k : Kept) → k.up ≡ true → (r : Result Request Status) → IsU
 judged_up k up (Ok request) = up
 judged_up k up (Err status) = up
 
-up_for : {S : Type 0} (node : Standing S) (input : Input) → IsUpFor (kept_of node.kept) (input_of node.kept.setup (kept_of node.kept) input)
+pub up_for : {S : Type 0} (node : Standing S) (input : Input) → IsUpFor (kept_of node.kept) (input_of node.kept.setup (kept_of node.kept) input)
 up_for node (inputs.Packet packet) = refl
 up_for node (inputs.Request account request) = judged_up (kept_of node.kept) refl _
 up_for node (inputs.Grant id) = refl

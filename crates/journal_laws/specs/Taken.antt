@@ -3,6 +3,9 @@ use Rattle.std.specs.Prelude.{◌≡◌, ℕ, ◌<◌, [], length, map, Option, 
 use Rattle.mc_model.specs.message.Ids.{IsIncarnation}
 use Rattle.mc_model.specs.synod.Acceptor.{Records}
 use Rattle.mc_model.specs.synod.Packet.{Packet}
+use Rattle.mc_model.specs.node.Input.{Input as Came}
+use Rattle.mc_model.specs.node.Setup.{Setup}
+use Rattle.node_model.specs.Kept.{Kept}
 use Rattle.node_model.specs.Outputs.{nothing}
 use Rattle.node_laws.specs.Steps.{IsWellMade}
 use Rattle.stable_store.specs.Stored.{Stored}
@@ -20,7 +23,7 @@ use Rattle.world.specs.declared.given.Given.{Given}
 use Rattle.world.specs.declared.step.Step.{Step}
 use Rattle.world.specs.declared.step.Step.TheVariants as steps
 use Rattle.world.specs.Runs.{IsGiven}
-use Rattle.journal_laws.specs.Journals.{Done, IsOwnRun, steps_for}
+use Rattle.journal_laws.specs.Journals.{Done, IsOwnRun, IsOwnStep, steps_for}
 
 -- ---- a step
 
@@ -53,6 +56,11 @@ done_by node number input outputs = record {
   given = given_of outputs;
   sent = map packet_of outputs.packets.items;
 }
+
+-- it is one of the node's own run, by this input of the model
+pub record IsTakenBy (setup : Setup) (k : Kept) (input : Came) (done : Done) : Type 0 where
+  pub own : IsOwnStep setup k done
+  pub by : own.input ≡ input
 
 -- ---- a start anew
 

@@ -1,8 +1,9 @@
 //! Laws of journals: nothing to call, but to cite.
 
-ghost use Rattle.std.specs.Prelude.{ℕ, ◌≤◌, Bool, [], ◌++◌, List, Ok, map};
+ghost use Rattle.std.specs.Prelude.{ℕ, ◌≤◌, Bool, [], ◌++◌, List, Ok, map, reverse};
 ghost use Rattle.mc_model.specs.synod.Packet.{Packet};
 ghost use Rattle.mc_model.specs.cluster.Steps.{Cluster};
+ghost use Rattle.mc_model.specs.node.Setup.{Setup};
 ghost use Rattle.node_model.specs.Kept.{Kept};
 ghost use Rattle.node_laws.specs.Clusters.{MayHappen, NodeInput, kept_reached};
 ghost use Rattle.node_core.specs.Input.{Input};
@@ -12,12 +13,14 @@ ghost use Rattle.node_core.specs.Outputs.{Outputs};
 ghost use Rattle.node_core.specs.Steps.{input_of};
 ghost use Rattle.node_laws.specs.Runs.{MayCome};
 ghost use Rattle.journal_laws.specs.Taken.{StartsAnew, StopsAndStartsAnew, done_by};
-ghost use Rattle.journal_laws.specs.Journals.{Entry, IsJournal, IsOwnStep, RunsOn};
+ghost use Rattle.journal_laws.specs.Journals.{Entry, IsJournal, IsOwnRun, IsOwnStep, RunsOn, done_in, packets_sent};
 ghost use Rattle.world.specs.declared.given.Given.{Given};
 ghost use Rattle.world.specs.declared.step.Step.{Step};
 ghost use Rattle.world_runs.specs.Traces.{Reaches};
 ghost use Rattle.journal_laws.specs.Example.{IsQuiet, alone, before, worked};
 ghost use Rattle.journal_laws.specs.Joining.{IsCut, IsListed};
+ghost use Rattle.journal_laws.specs.Likeness.{AreAllAlike};
+ghost use Rattle.journal_laws.specs.Parts.{IsPart, LeadTo};
 ghost use Rattle.journal_laws.specs.OldStores.{IsJournalOver, openings};
 ghost use Rattle.journal_laws.specs.Telling.{
   AcceptedAreKnown,
@@ -74,6 +77,23 @@ pub fn a_journal_goes_on_over_old_stores()
     ensures { (cluster : Cluster) (inputs : List NodeInput) (fresh : ℕ → Bool) (lost : ℕ → ℕ) (entries : List Entry) (ends : ℕ → Kept) →
         IsJournalOver cluster inputs fresh lost entries ends →
         IsJournal cluster (kept_reached cluster inputs).packets (openings fresh lost cluster.nodes ++ inputs) entries ends }
+{}
+
+/// A part of a journal, by what the nodes keep where it begins, is a journal behind each run that leads there. And one that begins where another one leads is a
+/// part with it: both of them, one after the other.
+pub fn a_part_is_a_journal()
+    ensures behind { (cluster : Cluster) (behind : List Packet) (inputs : List NodeInput) (kept : ℕ → Kept) (packets : List Packet) (entries : List Entry)
+        (ends : ℕ → Kept) → LeadTo cluster behind inputs kept packets → IsPart cluster kept packets entries ends →
+        IsJournal cluster behind inputs entries ends }
+    ensures both { (cluster : Cluster) (kept middles ends : ℕ → Kept) (packets : List Packet) (first second : List Entry) →
+        IsPart cluster kept packets first middles → IsPart cluster middles (reverse (packets_sent first) ++ packets) second ends →
+        IsPart cluster kept packets (first ++ second) ends }
+{}
+
+/// What is a node's own run stays it in a list of its own, of the same entries.
+pub fn an_own_run_is_copied()
+    ensures { (setup : Setup) (k last : Kept) (entries others : List Entry) → AreAllAlike entries others → IsOwnRun setup k (done_in entries) last →
+        IsOwnRun setup k (done_in others) last }
 {}
 
 /// And each run of a cluster is a journal, of its steps with what they gave: so a journal is no more and no less than a run.

@@ -22,7 +22,7 @@ use crate::life::Life;
 use crate::open::begin;
 use crate::pending::Pending;
 use mc_types::{Moment, MsgId};
-use node_kept::{Foreseen, Kept, Step, Stopped, told};
+use node_kept::{Foreseen, Kept, Setup, Step, Stopped, told};
 use node_parts::{Input, Outputs, StepFault};
 use pdu_codec::SystemId;
 use stable_store::{StableStore, StoreFault};
@@ -226,6 +226,20 @@ impl<S: StableStore> Node<S> {
         ensures { result ≡ self.now.kept.clock }
     {
         self.kept.clock()
+    }
+
+    /// With what it is set up.
+    pub fn setup(&self) -> Setup
+        ensures { result ≡ self.now.kept.setup }
+    {
+        self.kept.setup()
+    }
+
+    /// Whether a save failed, or an opening, and it was not opened again since. It takes no memory.
+    pub fn is_broken(&self) -> bool
+        ensures { result ≡ self.now.broken }
+    {
+        self.broken
     }
 
     /// Broken exactly if a save failed before. It takes no memory.
