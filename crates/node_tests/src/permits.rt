@@ -158,11 +158,14 @@ back => Nothing";
 // The numbers of the first two messages whose attempt could be granted.
 fn grantable(node: &Node<ListStore>) -> [Option<u64>; 2] {
     let first = node.grantable_after(None);
-    let second = match first {
-        Some(_) => node.grantable_after(first),
-        None => None,
-    };
+    let second = grantable_behind(node, first);
     [first.map(MsgId::number), second.map(MsgId::number)]
+}
+
+// The next one behind a message, if there is one.
+fn grantable_behind(node: &Node<ListStore>, first: Option<MsgId>) -> Option<MsgId> {
+    let id = first?;
+    node.grantable_after(Some(id))
 }
 
 #[test]
