@@ -1,10 +1,10 @@
 -- A node's own run that goes on by a step.
-use Rattle.std.proofs.Common.{◌≡◌, List, [], ◌∷◌, ◌++◌, None, sym, ap, subst}
+use Rattle.std.proofs.Common.{List, [], ◌∷◌, ◌++◌, None, sym, ap, subst}
 use Rattle.mc_model.specs.node.Input.{Input}
 use Rattle.mc_model.specs.node.Setup.{Setup}
 use Rattle.node_model.specs.Kept.{Kept}
 use Rattle.node_model.specs.Stepped.{stepped}
-use Rattle.journal_laws.specs.Journals.{Done, Entry, IsOwnRun, done_in, steps_for}
+use Rattle.journal_laws.specs.Journals.{Done, Entry, IsOwnRun, done_in}
 use Rattle.journal_laws.specs.Taken.{IsTakenBy}
 use Rattle.journal_laws.proofs.Joining.{done_both, own_both}
 

@@ -1,19 +1,17 @@
 -- The run of a node, in lists of their own.
-use Rattle.std.proofs.Common.{◌≡◌, ℕ, List, [], ◌∷◌, ◌++◌, length, Option, Some, None, refl, sym, ap, subst, ◌∙◌}
-use Rattle.std.specs.Prelude.{option_map}
+use Rattle.std.proofs.Common.{◌≡◌, ℕ, List, [], ◌∷◌, ◌++◌, length, Option, Some, None, sym, ap, subst, ◌∙◌}
 use Rattle.mc_model.specs.synod.Packet.{Packet}
 use Rattle.mc_model.specs.node.Input.{Input, Tick}
-use Rattle.mc_model.specs.node.Outputs.{Outputs}
 use Rattle.mc_model.specs.node.Setup.{Setup}
 use Rattle.node_model.specs.Kept.{Kept}
 use Rattle.node_model.specs.Stepped.{stepped}
 use Rattle.delivery.specs.Targets.{is_up}
 use Rattle.world.specs.Copies.{IsCopy}
-use Rattle.world.specs.Runs.{given_out, node_at}
+use Rattle.world.specs.Runs.{node_at}
 use Rattle.world.specs.declared.step.Step.{Step}
 use Rattle.world.specs.declared.step.Step.TheVariants as steps
 use Rattle.journal_laws.specs.Journals.{Done, Entry, IsOwnRun, IsOwnStep, Unfinished, ComesBy, done_in, outputs_done, steps_for, stop_of}
-use Rattle.journal_laws.specs.Likeness.{AreAlike, AreAllAlike, AreLike}
+use Rattle.journal_laws.specs.Likeness.{AreAllAlike, AreLike}
 
 pub same_node : (one other : Step) → IsCopy one other → node_at other ≡ node_at one
 same_node (steps.Tick node moment up) (steps.Tick same then others) copy = copy.0

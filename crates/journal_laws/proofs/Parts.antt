@@ -1,12 +1,12 @@
 -- A part of a journal goes on with the run that leads to it, and with another part.
-use Rattle.std.proofs.Common.{◌≡◌, ℕ, List, [], ◌∷◌, ◌++◌, length, refl, sym, ap, subst, ◌∙◌, inl, inr}
+use Rattle.std.proofs.Common.{ℕ, List, ◌++◌, length, sym, subst, inl, inr}
 use Rattle.std.specs.Prelude.{reverse}
 use Rattle.mc_model.specs.synod.Packet.{Packet}
 use Rattle.mc_model.specs.cluster.Steps.{Cluster, setup_of}
 use Rattle.mc_parts.proofs.Membership.{in_either}
 use Rattle.node_model.specs.Kept.{Kept}
-use Rattle.node_laws.specs.Clusters.{NodeInput, kept_reached}
-use Rattle.journal_laws.specs.Journals.{Done, Entry, IsInRange, IsJournal, IsOwnRun, WereSent, done_in, entries_at, packets_sent}
+use Rattle.node_laws.specs.Clusters.{NodeInput}
+use Rattle.journal_laws.specs.Journals.{Done, Entry, IsJournal, IsOwnRun, WereSent, done_in, entries_at, packets_sent}
 use Rattle.journal_laws.specs.Parts.{IsPart, LeadTo}
 use Rattle.journal_laws.proofs.Joining.{at_both, done_both, own_both, sent_both}
 use Rattle.journal_laws.proofs.OldStores.{sent_on}
