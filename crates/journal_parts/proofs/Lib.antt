@@ -1,0 +1,5 @@
+pub mod Alike
+pub mod Numbers
+pub mod Readies
+pub mod Members
+pub mod Reopening

@@ -1,0 +1,70 @@
+-- A step that was prepared is one of its node's own.
+use Rattle.std.proofs.Common.{◌≡◌, Option, Some, None, refl, sym, ap, subst}
+use Rattle.std.specs.Prelude.{option_map}
+use Rattle.std.proofs.lemmas.List.{length-map}
+use Rattle.mc_model.specs.node.Input.{Tick}
+use Rattle.mc_model.specs.node.Setup.{Setup}
+use Rattle.node_model.specs.Kept.{Kept}
+use Rattle.node_model.specs.Stepped.{stepped}
+use Rattle.node_laws.specs.Runs.{MayCome}
+use Rattle.delivery.specs.Targets.{is_up}
+use Rattle.synod_acceptor.specs.Packets.{packet_of}
+use Rattle.synod_acceptor.specs.declared.packet.Packet.{Packet}
+use Rattle.world.specs.declared.step.Step.{Step}
+use Rattle.world.specs.declared.step.Step.TheVariants as steps
+use Rattle.node_core.specs.Input.{Input as Given}
+use Rattle.node_core.specs.Input.TheVariants as given
+use Rattle.node_core.specs.Keeping.{kept_of}
+use Rattle.node_core.specs.Kept.{Kept as Holding}
+use Rattle.node_core.specs.Nodes.{Standing}
+use Rattle.node_core.specs.Steps.{input_of, outputs_of}
+use Rattle.journal_laws.specs.Journals.{ComesBy}
+use Rattle.journal_laws.specs.Taken.{IsTakenBy}
+use Rattle.journal_laws.proofs.Taken.{up_for}
+use Rattle.journal_parts.specs.declared.done.Done.{Done}
+use Rattle.journal_parts.specs.Entries.{done_of}
+use Rattle.journal_parts.specs.Members.{ComesWith, IsReady}
+
+comes_so : (setup : Setup) (k : Kept) (step : Step) (packet : Option Packet) (input : Given) → ComesWith step packet input →
+    ComesBy setup k step (option_map packet_of packet) (input_of setup k input)
+comes_so setup k (steps.Deliver number node) None input comes = absurd (cc)
+comes_so setup k (steps.Deliver number node) (Some packet) input comes =
+    let same : given.Packet packet ≡ input = cc in ap (λ (by : Given). Some (input_of setup k by)) same
+comes_so setup k (steps.Request node account request) packet input comes = ap (input_of setup k) comes.1
+comes_so setup k (steps.Grant node id) packet input comes = ap (input_of setup k) comes.1
+comes_so setup k (steps.Answered node slot outcome) packet input comes = ap (input_of setup k) comes.1
+comes_so setup k (steps.Tick node moment up) packet (given.Tick then others) comes = λ i. Tick (comes.1 i) (is_up (comes.2 i))
+comes_so setup k (steps.Tick node moment up) packet (given.Packet came) comes = absurd comes
+comes_so setup k (steps.Tick node moment up) packet (given.Request account request) comes = absurd comes
+comes_so setup k (steps.Tick node moment up) packet (given.Grant id) comes = absurd comes
+comes_so setup k (steps.Tick node moment up) packet (given.Answered slot outcome) comes = absurd comes
+comes_so setup k (steps.Crash node number found) packet input comes = absurd comes
+comes_so setup k (steps.Restart node) packet input comes = absurd comes
+
+taken_by : {S : Type 0} (node : Standing S) (input : Given) (done : Done) → ComesWith done.step done.packet input →
+    MayCome node.kept.setup (kept_of node.kept) (input_of node.kept.setup (kept_of node.kept) input) →
+    outputs_of done.outputs ≡ (stepped node.kept.setup (kept_of node.kept) (input_of node.kept.setup (kept_of node.kept) input)).outputs →
+    IsTakenBy node.kept.setup (kept_of node.kept) (input_of node.kept.setup (kept_of node.kept) input) (done_of done)
+taken_by node input done comes may gives = record {
+  own = record {
+    input = input_of node.kept.setup (kept_of node.kept) input;
+    comes = comes_so node.kept.setup (kept_of node.kept) done.step done.packet input comes;
+    up = up_for node input;
+    may = may;
+    gives = sym gives;
+    count = sym (length-map done.outputs.packets.items packet_of);
+  };
+  by = refl;
+}
+
+-- So it is for what the node kept as it was prepared.
+pub ready_by : {S : Type 0} (node : Standing S) (was : Holding) (input : Given) (done : Done) → was ≡ node.kept → ComesWith done.step done.packet input →
+    MayCome node.kept.setup (kept_of node.kept) (input_of node.kept.setup (kept_of node.kept) input) →
+    outputs_of done.outputs ≡ (stepped was.setup (kept_of was) (input_of was.setup (kept_of was) input)).outputs → IsReady was.setup (kept_of was) input done
+ready_by node was input done is comes may gives =
+    subst (λ (k : Holding). IsReady k.setup (kept_of k) input done) (sym is)
+    (record {
+      comes = comes;
+      taken = taken_by node input done comes may
+          (subst (λ (k : Holding). outputs_of done.outputs ≡ (stepped k.setup (kept_of k) (input_of k.setup (kept_of k) input)).outputs) is gives);
+    })

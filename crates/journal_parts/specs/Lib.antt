@@ -1,0 +1,5 @@
+pub mod Refusals
+pub mod Entries
+pub mod Slips
+pub mod Registers
+pub mod Members

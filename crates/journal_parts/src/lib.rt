@@ -1,0 +1,31 @@
+//! What stands under the locks of nodes in threads: each node with its own steps, and the journal of all.
+#![tactic(auto)]
+
+mod anew;
+mod begins;
+mod carried;
+mod coming;
+mod copies;
+mod done;
+mod entry;
+mod member;
+mod noted;
+mod post;
+mod ready;
+mod refusal;
+mod register;
+mod seat;
+mod slip;
+
+pub use anew::Anew;
+pub use begins::Begins;
+pub use copies::EntryCopies;
+pub use done::Done;
+pub use entry::{Entry, Unfinished};
+pub use member::Member;
+pub use post::Post;
+pub use ready::Ready;
+pub use refusal::Refusal;
+pub use register::{MOST_ENTRIES, MOST_SEATS, Register};
+pub use seat::Seat;
+pub use slip::Slip;

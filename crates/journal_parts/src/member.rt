@@ -1,0 +1,242 @@
+//! A node and its own steps, under its lock.
+
+ghost use Rattle.std.specs.Prelude.{◌≡◌, ◌≤◌, ◌∷◌, ◌++◌, ◌||◌, [], None, IfOk, OnErr, OnOk, false, true};
+ghost use Rattle.node_core.specs.Nodes.{IsLifeOf};
+ghost use Rattle.node_core.specs.Permits.{IsAnswered, IsGrant, is_life_of};
+ghost use Rattle.world.specs.declared.step.Step.TheVariants as steps;
+ghost use Rattle.journal_laws.specs.Journals.{IsInRange};
+ghost use Rattle.world.specs.Runs.{node_at};
+ghost use Rattle.journal_parts.specs.Entries.{IsAnew, done_of};
+ghost use Rattle.journal_parts.specs.Members.{CanBeTaken, ComesWith, IsBeginning, packet_halted};
+
+use crate::anew::Anew;
+use crate::begins::Begins;
+use crate::copies::EntryCopies;
+use crate::entry::Entry;
+use crate::post::Post;
+use crate::ready::Ready;
+use crate::refusal::Refusal;
+use mc_types::NodeNo;
+use node_core::{Life, Node, Permit};
+use stable_store::StableStore;
+use std::alloc::{AllocError, Global};
+use std::marker::{Model, PhantomData};
+use synod_acceptor::Packet;
+use world::Step;
+
+/// A node and its own entries, which are its run from what it keeps where the journal begins. Contracts see the node, the packet in the save of whose step it
+/// stopped, its entries, and for how many more it has room.
+#[derive(Drop)]
+pub struct Member<S: StableStore, L: Begins> {
+    post: Post<S>,
+    own: Vec<Entry>,
+    part: PhantomData<L>,
+}
+
+impl<S: StableStore, L: Begins> Model for Member<S, L> {
+    ghost use Rattle.std.specs.Prelude.{◌-◌, map, option_map};
+    ghost use Rattle.std.specs.Vec.{vec_capacity, vec_len};
+    ghost use Rattle.journal_parts.specs.Entries.{entry_of};
+    ghost use Rattle.journal_parts.specs.Members.{IsMember, Membered, posted};
+
+    ghost Value = { Membered S };
+
+    ghost view = { λ m. record {
+      post = posted m.post;
+      own = map entry_of m.own.items;
+      room = vec_capacity m.own - vec_len m.own;
+    } };
+
+    ghost invariant = { λ m. IsMember S.stored L.cluster L.kept (posted m.post) (map entry_of m.own.items) };
+}
+
+impl<S: StableStore, L: Begins> Member<S, L> {
+    /// A node where the journal begins: it has no entry yet. It takes no memory.
+    pub fn begin(alloc: Global, node: Node<S>) -> Member<S, L>
+        requires { IsBeginning L.cluster L.kept node }
+        ensures node { result.post.node ≡ node }
+        ensures own { result.own ≡ [] }
+    {
+        Member {
+            post: Post {
+                node,
+                halted: None,
+                astray: false,
+            },
+            own: Vec::new(alloc),
+            part: PhantomData,
+        }
+    }
+
+    /// Prepares a step, with the packet that comes by it, if one does: it changes nothing but the room for entries. Broken exactly if a save failed before;
+    /// then Grant and NotGranted exactly as `Node::prepare_step` says; else an `Err` is want of memory.
+    pub fn prepare(&mut self, step: Step, packet: Option<Packet>) -> Result<Ready, Refusal>
+        requires { CanBeTaken step packet }
+        ensures was { IfOk result (λ ready. ready.was ≡ self.new.post.node.kept) }
+        ensures step { IfOk result (λ ready. ready.done.step ≡ step) }
+        ensures packet { IfOk result (λ ready. ready.done.packet ≡ packet) }
+        ensures comes { IfOk result (λ ready. ComesWith step packet ready.input) }
+        ensures room { OnOk result (1 ≤ self.new.room) }
+        ensures post { self.new.post ≡ self.old.post }
+        ensures own { self.new.own ≡ self.old.own }
+    {
+        let ready = self.post.prepare(step, packet)?;
+        self.make_room()?;
+        Ok(ready)
+    }
+
+    /// Makes room for one more entry. An `Err` is want of memory.
+    fn make_room(&mut self) -> Result<(), AllocError>
+        ensures room { OnOk result (1 ≤ self.new.room) }
+        ensures post { self.new.post ≡ self.old.post }
+        ensures own { self.new.own ≡ self.old.own }
+    {
+        self.own.reserve(1)
+    }
+
+    /// Commits a step of this node that was prepared, if the node is as it was then, and adds its entry to its own. It takes no memory but what the store
+    /// takes. An `Err` is Broken, Device or Memory, and adds nothing.
+    #[tactic(auto, using(crate::proofs::Members::member_more, crate::proofs::Members::member_rests))]
+    pub fn commit(&mut self, ready: Ready) -> Result<EntryCopies, Refusal>
+        requires was { ready.was ≡ self.old.post.node.kept }
+        requires node { node_at ready.done.step ≡ self.old.post.node.kept.setup.node }
+        requires room { 1 ≤ self.old.room }
+        requires sound { self.old.post.astray ≡ false }
+        ensures entry { IfOk result (λ copies. copies ≡ record { done = done_of ready.done; unfinished = None }) }
+        ensures own { IfOk result (λ copies. self.new.own ≡ self.old.own ++ copies ∷ []) }
+        ensures err { OnErr result (self.new.own ≡ self.old.own) }
+        ensures astray { self.new.post.astray ≡ false }
+        ensures setup { self.new.post.node.kept.setup ≡ self.old.post.node.kept.setup }
+    {
+        let Ready {
+            pending,
+            done,
+            copies,
+        } = ready;
+        let done = self.post.commit(pending, done)?;
+        self.own.push_reserved(Entry::of(done));
+        Ok(copies)
+    }
+
+    /// Commits a grant of this node that was prepared, if the node is as it was then and is neither Broken nor astray, in a life of this node and incarnation.
+    /// It gives the permit of the attempt, and the entry for those that share it; it takes no memory.
+    pub fn commit_grant<'l>(&mut self, life: &'l Life, ready: Ready) -> (Permit<'l>, EntryCopies)
+        requires was { ready.was ≡ self.old.post.node.kept }
+        requires node { node_at ready.done.step ≡ self.old.post.node.kept.setup.node }
+        requires room { 1 ≤ self.old.room }
+        requires works { self.old.post.node.broken ≡ false }
+        requires sound { self.old.post.astray ≡ false }
+        requires grant { IsGrant ready.input }
+        requires life { is_life_of self.old.post.node life.now ≡ true }
+        ensures entry { result.1 ≡ record { done = done_of ready.done; unfinished = None } }
+        ensures own { self.new.own ≡ self.old.own ++ result.1 ∷ [] }
+        ensures life { result.0.life ≡ life.now }
+    {
+        let Ready {
+            pending,
+            done,
+            copies,
+        } = ready;
+        let permit = self.post.commit_grant(life, pending);
+        self.own.push_reserved(Entry::of(done));
+        (permit, copies)
+    }
+
+    /// Commits what came of the attempt of a permit of this node, if the node is as it was when that was prepared and is neither Broken nor astray, and the
+    /// permit is of this node and incarnation. It spends the permit, and takes no memory.
+    pub fn commit_answered<'l>(&mut self, permit: Permit<'l>, ready: Ready) -> EntryCopies
+        requires was { ready.was ≡ self.old.post.node.kept }
+        requires node { node_at ready.done.step ≡ self.old.post.node.kept.setup.node }
+        requires room { 1 ≤ self.old.room }
+        requires works { self.old.post.node.broken ≡ false }
+        requires sound { self.old.post.astray ≡ false }
+        requires answered { IsAnswered permit.slot ready.input }
+        requires life { is_life_of self.old.post.node permit.life ≡ true }
+        ensures entry { result ≡ record { done = done_of ready.done; unfinished = None } }
+        ensures own { self.new.own ≡ self.old.own ++ result ∷ [] }
+    {
+        let Ready {
+            pending,
+            done,
+            copies,
+        } = ready;
+        self.post.commit_answered(permit, pending);
+        self.own.push_reserved(Entry::of(done));
+        copies
+    }
+
+    /// The node.
+    pub fn node(&self) -> NodeNo
+        ensures { result ≡ self.now.post.node.kept.setup.node }
+    {
+        self.post.node.setup().node()
+    }
+
+    /// Whether it takes no step: a save failed, or an opening, or it is astray.
+    pub fn is_broken(&self) -> bool
+        ensures { result ≡ (self.now.post.astray || self.now.post.node.broken) }
+    {
+        self.post.astray || self.post.node.is_broken()
+    }
+
+    /// Whether it is astray: its store gave an incarnation that was used.
+    pub fn is_astray(&self) -> bool
+        ensures { result ≡ self.now.post.astray }
+    {
+        self.post.astray
+    }
+
+    /// Whether a life is its node's, in its incarnation.
+    pub fn is_life(&self, life: &Life) -> bool
+        ensures { result ≡ is_life_of self.now.post.node life.now }
+    {
+        self.post.node.is_life(life)
+    }
+
+    /// What a proof takes of it: its node is one of the cluster. The call does nothing.
+    pub fn within(&self)
+        ensures { IsInRange L.cluster self.now.post.node.kept.setup.node }
+    {
+        let _astray = self.post.astray;
+    }
+
+    /// Prepares a start anew: it changes nothing but the room for entries. An `Err` is want of memory.
+    pub fn prepare_anew(&mut self) -> Result<Anew, AllocError>
+        ensures anew { IfOk result (λ anew. (anew.step ≡ steps.Restart self.old.post.node.kept.setup.node) × (anew.packet ≡ packet_halted self.old.post.halted)) }
+        ensures room { OnOk result (1 ≤ self.new.room) }
+        ensures post { self.new.post ≡ self.old.post }
+        ensures own { self.new.own ≡ self.old.own }
+    {
+        let alloc = *self.own.allocator();
+        let anew = Anew::make(alloc, self.node(), self.post.halted_packet()?)?;
+        self.make_room()?;
+        Ok(anew)
+    }
+
+    /// Starts its node anew, if the life is its own and it is not astray, and adds the entry of it to its own; the new life, and the entry for those that share
+    /// it. An `Err` is Device, Spent, Damaged or Memory, and adds nothing; it is astray, and the answer Damaged, if its store gave an incarnation that was
+    /// used.
+    pub fn start_anew(
+        &mut self,
+        life: Life,
+        anew: Anew,
+    ) -> Result<(Life, EntryCopies), (Refusal, Life)>
+        requires life { IsLifeOf self.old.post.node life }
+        requires sound { self.old.post.astray ≡ false }
+        requires step { anew.step ≡ steps.Restart self.old.post.node.kept.setup.node }
+        requires packet { anew.packet ≡ packet_halted self.old.post.halted }
+        requires room { 1 ≤ self.old.room }
+        ensures entry { IfOk result (λ started. IsAnew anew started.1) }
+        ensures own { IfOk result (λ started. self.new.own ≡ self.old.own ++ started.1 ∷ []) }
+        ensures err { OnErr result (self.new.own ≡ self.old.own) }
+    {
+        let Anew { done, mut copies } = anew;
+        let (life, save) = self.post.reopen(life)?;
+        copies.name(save);
+        self.own.push_reserved(Entry {
+            done,
+            unfinished: save,
+        });
+        Ok((life, copies))
+    }
+}

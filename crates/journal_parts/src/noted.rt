@@ -1,0 +1,25 @@
+//! An entry at its place in the journal.
+
+ghost use Rattle.std.specs.Prelude.{◌≡◌, IfSome};
+ghost use Rattle.std.specs.Option.{option_copied};
+ghost use Rattle.journal_parts.specs.Registers.{IsNumberedIn};
+
+use crate::entry::Entry;
+use synod_acceptor::Packet;
+
+/// An entry at its place in the journal, and how many packets had numbers before it.
+#[derive(Drop)]
+pub(crate) struct Noted {
+    pub(crate) entry: Entry,
+    pub(crate) before: u64,
+}
+
+impl Noted {
+    /// The packet that it sent under this number, if it sent one under it.
+    pub(crate) fn packet(&self, number: u64) -> Option<&Packet>
+        ensures { IfSome (option_copied result) (IsNumberedIn self.now number) }
+    {
+        let place = number.checked_sub(self.before)?.checked_sub(1)?;
+        self.entry.done.outputs.packets.get(place as usize)
+    }
+}

@@ -1,0 +1,208 @@
+//! A node, and the save in which it stopped.
+
+ghost use Rattle.std.specs.Prelude.{◌≡◌, ◌⊎◌, None, Some, IfOk, IfSome, IsSome, OnErr, OnOk, false, true, option_map};
+ghost use Rattle.std.specs.Option.{option_copied};
+ghost use Rattle.synod_acceptor.specs.Packets.{packet_of};
+ghost use Rattle.node_laws.specs.Steps.{IsWellMade};
+ghost use Rattle.node_core.specs.Nodes.{IsLifeOf};
+ghost use Rattle.node_core.specs.Permits.{IsAnswered, IsGrant, is_life_of};
+ghost use Rattle.std.specs.Arc.{arc_value};
+ghost use Rattle.node_model.specs.Stepped.{stepped};
+ghost use Rattle.node_core.specs.Keeping.{kept_of};
+ghost use Rattle.node_core.specs.Steps.{input_of, outputs_of};
+ghost use Rattle.journal_parts.specs.Entries.{number_by, save_of};
+ghost use Rattle.journal_parts.specs.Members.{CanBeTaken, ComesWith, Reopens, Rests, Strays, Takes, halt_of, packet_halted, posted, save_by};
+
+use crate::coming::input_by;
+use crate::copies::EntryCopies;
+use crate::done::Done;
+use crate::entry::{Entry, Unfinished};
+use crate::ready::Ready;
+use crate::refusal::Refusal;
+use node_core::{Life, Node, Pending, Permit, StepFault, Stopped};
+use node_runs::{is_well_made, may_come};
+use stable_store::StableStore;
+use std::alloc::AllocError;
+use std::sync::Arc;
+use synod_acceptor::Packet;
+use world::Step;
+
+/// The step in the save of which a node stopped, and the number of the packet that came by it.
+#[derive(Drop)]
+pub(crate) struct Halted {
+    pub(crate) number: u64,
+    pub(crate) done: Arc<Done>,
+}
+
+/// A node, and the step in the save of which it stopped, if it has not started anew since. It is astray once it was opened over a store in an incarnation that
+/// was used: it takes no step any more.
+#[derive(Drop)]
+pub struct Post<S: StableStore> {
+    pub(crate) node: Node<S>,
+    pub(crate) halted: Option<Halted>,
+    pub(crate) astray: bool,
+}
+
+impl<S: StableStore> Post<S> {
+    /// Prepares a step, with the packet that comes by it, if one does. It changes nothing. Broken exactly if a save failed before; then Grant and NotGranted
+    /// exactly as `Node::prepare_step` says; else an `Err` is want of memory.
+    pub(crate) fn prepare(&self, step: Step, packet: Option<Packet>) -> Result<Ready, Refusal>
+        requires { CanBeTaken step packet }
+        ensures was { IfOk result (λ ready. ready.was ≡ self.now.node.kept) }
+        ensures step { IfOk result (λ ready. ready.done.step ≡ step) }
+        ensures packet { IfOk result (λ ready. ready.done.packet ≡ packet) }
+        ensures comes { IfOk result (λ ready. ComesWith step packet ready.input) }
+    {
+        let input = input_by(&step, &packet)?;
+        may_come(&self.node, &input);
+        let pending = self.node.prepare_step(input)?;
+        let done = shared(step, packet, &pending)?;
+        Ok(Ready {
+            copies: EntryCopies::of(&Entry::of(Arc::try_clone(&done)?))?,
+            pending,
+            done,
+        })
+    }
+
+    /// Commits what was prepared, if the node is as it was then, and gives the step back. It takes no memory but what the store takes. At Device, which comes
+    /// at the step of a packet alone, the post has the step; Broken, Device and Memory are all that it answers.
+    pub(crate) fn commit(&mut self, pending: Pending, done: Arc<Done>) -> Result<Arc<Done>, Refusal>
+        requires was { pending.was ≡ self.old.node.kept }
+        requires comes { ComesWith (arc_value done).step (arc_value done).packet pending.input }
+        ensures step { IfOk result (λ given. arc_value given ≡ arc_value done) }
+        ensures taken { OnOk result (Takes S.stored (posted self.old) pending.input (posted self.new)) }
+        ensures err { OnErr result (Rests S.stored (posted self.old) (posted self.new)) }
+    {
+        match self.node.commit(pending) {
+            Ok(outputs) => {
+                drop(outputs);
+                Ok(done)
+            }
+            Err(StepFault::Device) => {
+                self.halted = Some(halted_by(done));
+                Err(Refusal::Device)
+            }
+            Err(fault) => Err(Refusal::from(fault)),
+        }
+    }
+
+    /// Commits a grant that was prepared, if the node is as it was then and is not Broken, in a life of this node and incarnation, and gives the permit of its
+    /// attempt. It takes no memory.
+    pub(crate) fn commit_grant<'l>(&mut self, life: &'l Life, pending: Pending) -> Permit<'l>
+        requires was { pending.was ≡ self.old.node.kept }
+        requires works { self.old.node.broken ≡ false }
+        requires grant { IsGrant pending.input }
+        requires life { is_life_of self.old.node life.now ≡ true }
+        ensures taken { Takes S.stored (posted self.old) pending.input (posted self.new) }
+        ensures slot { (stepped pending.was.setup (kept_of pending.was) (input_of pending.was.setup (kept_of pending.was) pending.input)).outputs.granted
+            ≡ Some result.slot }
+        ensures life { result.life ≡ life.now }
+    {
+        let (permit, outputs) = self.node.commit_grant(life, pending);
+        drop(outputs);
+        permit
+    }
+
+    /// Commits what came of the attempt of a permit, if the node is as it was when that was prepared and is not Broken, and the permit is of this node and
+    /// incarnation. It spends the permit and takes no memory.
+    pub(crate) fn commit_answered<'l>(&mut self, permit: Permit<'l>, pending: Pending)
+        requires was { pending.was ≡ self.old.node.kept }
+        requires works { self.old.node.broken ≡ false }
+        requires answered { IsAnswered permit.slot pending.input }
+        requires life { is_life_of self.old.node permit.life ≡ true }
+        ensures { Takes S.stored (posted self.old) pending.input (posted self.new) }
+    {
+        drop(self.node.commit_answered(permit, pending));
+    }
+
+    /// Opens the node again, if the life is its own and it is not astray: it keeps the records of its store and nothing else, in a later incarnation than its
+    /// last one. It gives the new life, and the save that the node had not finished, if one failed. Device and Damaged leave it Broken, Spent and Memory as it
+    /// was; but it is astray, and the answer Damaged, if its store gave an incarnation that was used.
+    pub(crate) fn reopen(
+        &mut self,
+        life: Life,
+    ) -> Result<(Life, Option<Unfinished>), (Refusal, Life)>
+        requires life { IsLifeOf self.old.node life }
+        requires sound { self.old.astray ≡ false }
+        requires halts { self.old.node.unfinished ≡ packet_halted (posted self.old).halted }
+        ensures ok { IfOk result (λ opened. Reopens S.stored (posted self.old) (option_map save_of opened.1) (posted self.new)) }
+        ensures err { OnErr result (Rests S.stored (posted self.old) (posted self.new) ⊎ Strays S.stored (posted self.old) (posted self.new)) }
+    {
+        let last = life.incarnation().number();
+        self.node.lists();
+        self.halted_well_made();
+        let life = match self.node.reopen(life) {
+            Ok(life) => life,
+            Err((fault, life)) => return Err((Refusal::from(fault), life)),
+        };
+        self.node.bounds();
+        let halted = self.halted.take();
+        if life.incarnation().number() <= last {
+            self.astray = true;
+            return Err((Refusal::Damaged, life));
+        }
+        Ok((life, unfinished_by(halted, self.node.stopped())))
+    }
+
+    /// What a proof takes of the packet in the save of whose step it stopped. The call does nothing.
+    fn halted_well_made(&self)
+        ensures { IfSome (packet_halted (posted self.now).halted) (λ packet. IsWellMade (packet_of packet)) }
+    {
+        if let Some(halted) = &self.halted {
+            if let Some(packet) = &halted.done.packet {
+                is_well_made(packet);
+            }
+        }
+    }
+
+    /// The packet in the save of whose step it stopped, once more. An `Err` is want of memory.
+    pub(crate) fn halted_packet(&self) -> Result<Option<Packet>, AllocError>
+        ensures { IfOk result (λ packet. packet ≡ packet_halted (posted self.now).halted) }
+    {
+        let Some(Halted { done, .. }) = &self.halted else {
+            return Ok(None);
+        };
+        match &done.packet {
+            Some(packet) => Ok(Some(packet.copy()?)),
+            None => Ok(None),
+        }
+    }
+}
+
+/// The save that a node had not finished, as it tells once it was opened again.
+fn unfinished_by(halted: Option<Halted>, stopped: Option<&Stopped>) -> Option<Unfinished>
+    ensures { option_map save_of result ≡ save_by (option_map halt_of halted) (option_copied stopped.entry) }
+{
+    let number = halted?.number;
+    let found = stopped?.found;
+    Some(Unfinished { number, found })
+}
+
+/// The step in the save of which a node stopped, which is that of a packet.
+fn halted_by(done: Arc<Done>) -> Halted
+    requires { IsSome (number_by (arc_value done).step) }
+    ensures { (halt_of result).1 ≡ (arc_value done).packet }
+{
+    let (Step::Deliver { number, .. } | Step::Crash { number, .. }) = done.step else {
+        unreachable!();
+    };
+    Halted { number, done }
+}
+
+/// A step with what it will give out, for several owners.
+fn shared(step: Step, packet: Option<Packet>, pending: &Pending) -> Result<Arc<Done>, AllocError>
+    ensures step { IfOk result (λ done. (arc_value done).step ≡ step) }
+    ensures packet { IfOk result (λ done. (arc_value done).packet ≡ packet) }
+    ensures outputs { IfOk result (λ done. outputs_of (arc_value done).outputs ≡ (stepped pending.now.was.setup (kept_of pending.now.was)
+        (input_of pending.now.was.setup (kept_of pending.now.was) pending.now.input)).outputs) }
+{
+    let outputs = pending.outputs().copy()?;
+    Ok(Arc::new(
+        *outputs.packets.allocator(),
+        Done {
+            step,
+            packet,
+            outputs,
+        },
+    )?)
+}

@@ -1,0 +1,267 @@
+//! The journal of all nodes, under its lock.
+
+ghost use Rattle.std.specs.Prelude.{◌≡◌, ◌⊎◌, ◌↔◌, ◌+◌, ◌-◌, ◌≤◌, ◌<◌, [], ◌∷◌, ◌++◌, false, IfErr};
+ghost use Rattle.std.specs.Prelude.{IsErrOf, IfOk, IfSome, IfNone, OnErr, OnOk, IsTrue, length, map, option_map, None, Some};
+ghost use Rattle.std.specs.Arc.{arc_value};
+ghost use Rattle.std.specs.Option.{option_copied};
+ghost use Rattle.synod_acceptor.specs.Packets.{packet_of};
+ghost use Rattle.world.specs.Runs.{node_at};
+ghost use Rattle.journal_laws.specs.Journals.{HasItsNumber, IsInRange};
+ghost use Rattle.journal_parts.specs.Entries.{IsSound, entry_of};
+ghost use Rattle.journal_parts.specs.Members.{CanBeTaken, IsAct};
+ghost use Rattle.journal_parts.specs.Registers.{CameFrom, HasEntered, HasPacket};
+ghost use Rattle.journal_parts.specs.declared.refusal.Refusal.TheVariants.{Broken, Full};
+
+use crate::begins::Begins;
+use crate::carried::Carried;
+use crate::copies::EntryCopies;
+use crate::entry::Entry;
+use crate::noted::Noted;
+use crate::refusal::Refusal;
+use crate::seat::Seat;
+use crate::slip::Slip;
+use std::alloc::{AllocError, Global};
+use std::marker::Model;
+use std::sync::ledger::{Blank, Book, Share};
+use synod_acceptor::Packet;
+use world::Step;
+
+/// How many entries a journal has at most.
+pub const MOST_ENTRIES: usize = 200_000;
+
+/// How many seats a cluster gives at most.
+pub const MOST_SEATS: u64 = 1_000_000;
+
+/// The journal of all nodes, in the order in which their steps were taken. Each packet has the number under which it was sent, from 1. Contracts see the
+/// entries, how many calls have claimed room for one, and how many seats are left.
+#[derive(Drop)]
+pub struct Register<L: Begins> {
+    // Room for all entries is made as it opens.
+    noted: Vec<Noted>,
+    claims: usize,
+    // The packets of earlier parts that may still come, by ascending numbers.
+    carried: Vec<Carried>,
+    // How many packets have numbers.
+    sent: u64,
+    book: Book<L>,
+    seats: Share<L>,
+    seats_left: u64,
+}
+
+impl<L: Begins> Model for Register<L> {
+    ghost use Rattle.std.specs.Prelude.{◌≡◌, ◌≤◌, ◌+◌, ◌-◌};
+    ghost use Rattle.std.specs.Vec.{vec_capacity, vec_len};
+    ghost use Rattle.journal_parts.specs.Registers.{IsRegister, Registered, entries_of};
+
+    ghost Value = { Registered };
+
+    ghost view = { λ r. record {
+      entries = entries_of r.noted.items;
+      claims = r.claims;
+      room = vec_capacity r.noted - vec_len r.noted;
+      seats = r.seats_left;
+    } };
+
+    ghost invariant = { λ r.
+        IsRegister L.cluster L.packets r.noted.items r.carried.items r.sent
+        × (vec_len r.noted + r.claims ≤ vec_capacity r.noted)
+        × (r.book.total ≡ vec_len r.noted)
+        × (r.seats.parts ≡ r.seats_left)
+        × (r.seats.amount ≡ 0) };
+}
+
+impl<L: Begins> Register<L> {
+    /// A journal with no entry yet, and room for them all, whose first packet has the number 1. An `Err` is want of memory.
+    pub fn open(alloc: Global, blank: Blank) -> Result<Register<L>, AllocError>
+        requires name { blank.name ≡ L.name }
+        requires parts { (blank.parts ≡ L.parts) × (blank.parts ≡ 1000000) }
+        requires packets { L.packets ≡ [] }
+        ensures entries { IfOk result (λ register. register.entries ≡ []) }
+        ensures claims { IfOk result (λ register. register.claims ≡ 0) }
+        ensures room { IfOk result (λ register. 200000 ≤ register.room) }
+        ensures seats { IfOk result (λ register. register.seats ≡ 1000000) }
+    {
+        let noted = Vec::with_capacity(alloc, MOST_ENTRIES)?;
+        let (book, seats) = blank.open::<L>();
+        Ok(Register {
+            noted,
+            claims: 0,
+            carried: Vec::new(alloc),
+            sent: 0,
+            book,
+            seats,
+            seats_left: MOST_SEATS,
+        })
+    }
+
+    /// A seat with no slip, if one is left. It takes no memory.
+    pub fn seat(&mut self, alloc: Global) -> Option<Seat<L>>
+        ensures left { IfSome result (λ seat. (seat.slips ≡ []) × (self.new.seats + 1 ≡ self.old.seats)) }
+        ensures none { IfNone result ((self.old.seats ≡ 0) × (self.new.seats ≡ 0)) }
+        ensures entries { self.new.entries ≡ self.old.entries }
+        ensures claims { self.new.claims ≡ self.old.claims }
+        ensures room { self.new.room ≡ self.old.room }
+    {
+        if self.seats_left == 0 {
+            return None;
+        }
+        self.seats_left -= 1;
+        Some(Seat::of(alloc, self.seats.split_off(1, 0)))
+    }
+
+    /// Claims room for the entry of a step, and gives the packet that comes by it, if one does. Full exactly if no room is left; else Broken exactly if the
+    /// node is; else NoSuchPacket exactly if a packet is asked for and none has its number; else an `Err` is want of memory. Then nothing is claimed.
+    pub fn admit(&mut self, step: &Step, broken: bool) -> Result<Option<Packet>, Refusal>
+        requires { IsAct step.now }
+        ensures packet { IfOk result (CanBeTaken step.now) }
+        ensures works { OnOk result (broken ≡ false) }
+        ensures claims { OnOk result (self.new.claims ≡ self.old.claims + 1) }
+        ensures stays { OnErr result (self.new.claims ≡ self.old.claims) }
+        ensures entries { self.new.entries ≡ self.old.entries }
+        ensures seats { self.new.seats ≡ self.old.seats }
+    {
+        self.judge(broken)?;
+        let packet = self.packet_by(step)?;
+        self.claims += 1;
+        Ok(packet)
+    }
+
+    /// Claims room for the entry of a start anew. Full exactly if no room is left; then nothing is claimed.
+    pub fn admit_anew(&mut self) -> Result<(), Refusal>
+        ensures claims { OnOk result (self.new.claims ≡ self.old.claims + 1) }
+        ensures stays { OnErr result (self.new.claims ≡ self.old.claims) }
+        ensures entries { self.new.entries ≡ self.old.entries }
+        ensures seats { self.new.seats ≡ self.old.seats }
+    {
+        self.judge(false)?;
+        self.claims += 1;
+        Ok(())
+    }
+
+    /// Full exactly if there is no room for one more entry behind those that are claimed; else Broken exactly if the node is.
+    fn judge(&self, broken: bool) -> Result<(), Refusal>
+        ensures room { OnOk result (self.now.claims < self.now.room) }
+        ensures works { OnOk result (broken ≡ false) }
+        ensures full { IsErrOf result Full ↔ (self.now.room ≤ self.now.claims) }
+        ensures faults { IfErr result (λ refusal. (refusal ≡ Full) ⊎ (refusal ≡ Broken)) }
+    {
+        if self.claims >= self.room() {
+            return Err(Refusal::Full);
+        }
+        if broken {
+            return Err(Refusal::Broken);
+        }
+        Ok(())
+    }
+
+    /// For how many more entries there is room, claimed or not.
+    fn room(&self) -> usize
+        ensures { result ≡ self.now.room }
+    {
+        self.noted.capacity() - self.noted.len()
+    }
+
+    /// The packet that comes by a step, if one does. NoSuchPacket exactly if a packet is asked for and none has its number; else an `Err` is want of memory.
+    fn packet_by(&self, step: &Step) -> Result<Option<Packet>, Refusal>
+        requires { IsAct step.now }
+        ensures { IfOk result (CanBeTaken step.now) }
+    {
+        let Step::Deliver { number, .. } = step else {
+            return Ok(None);
+        };
+        match self.packet(*number) {
+            Some(packet) => Ok(Some(packet.copy()?)),
+            None => Err(Refusal::NoSuchPacket),
+        }
+    }
+
+    /// Gives a claim back, if there is one.
+    pub fn give_back(&mut self)
+        ensures claims { self.new.claims ≡ self.old.claims - 1 }
+        ensures entries { self.new.entries ≡ self.old.entries }
+        ensures seats { self.new.seats ≡ self.old.seats }
+    {
+        self.claims = self.claims.saturating_sub(1);
+    }
+
+    /// The packet with this number, if one has it: one that an entry sent, or one of an earlier part that may still come.
+    pub fn packet(&self, number: u64) -> Option<&Packet>
+        ensures { IfSome (option_copied result) (λ packet. HasPacket L.packets self.now.entries number (packet_of packet)) }
+    {
+        match self.carried_packet(number) {
+            Some(packet) => Some(packet),
+            None => self.sent_packet(number),
+        }
+    }
+
+    /// One of an earlier part that may still come.
+    fn carried_packet(&self, number: u64) -> Option<&Packet>
+        ensures { IfSome (option_copied result) (λ packet. HasPacket L.packets self.now.entries number (packet_of packet)) }
+    {
+        let place = self
+            .carried
+            .as_slice()
+            .partition_point(|carried| carried.number < number);
+        let carried = self.carried.get(place)?;
+        if carried.number != number {
+            return None;
+        }
+        Some(&carried.packet)
+    }
+
+    /// One that an entry sent.
+    fn sent_packet(&self, number: u64) -> Option<&Packet>
+        ensures { IfSome (option_copied result) (λ packet. HasPacket L.packets self.now.entries number (packet_of packet)) }
+    {
+        let behind = self
+            .noted
+            .as_slice()
+            .partition_point(|noted| noted.before < number);
+        let noted = self.noted.get(behind.checked_sub(1)?)?;
+        noted.packet(number)
+    }
+
+    /// Whether the packet that comes by an entry is the one that was sent under its number.
+    fn has_sent(&self, entry: &Entry) -> bool
+        ensures { IsTrue result → CameFrom L.packets self.now.entries (entry_of entry.now) }
+    {
+        let (Some(number), Some(packet)) = (entry.number(), &entry.done.packet) else {
+            return true;
+        };
+        match self.packet(number) {
+            Some(sent) => sent.is(packet),
+            None => false,
+        }
+    }
+
+    /// Adds an entry that had a claim, and its slip to the seat, and gives the same slip. It is None, and nothing is added, only if there is no claim, the
+    /// packet that comes by the entry is not the one that was sent under its number, or there are 2^64 packets. It takes no memory.
+    pub fn enter(&mut self, seat: &mut Seat<L>, copies: EntryCopies) -> Option<Slip>
+        requires node { IsInRange L.cluster (node_at copies.done.step) }
+        requires sound { IsSound copies }
+        requires room { 1 ≤ seat.old.room }
+        ensures entered { IfSome result (HasEntered self.old.entries copies self.new.entries) }
+        ensures slips { IfSome result (λ slip. seat.new.slips ≡ seat.old.slips ++ slip ∷ []) }
+        ensures none { IfNone result ((self.new.entries ≡ self.old.entries) × (seat.new.slips ≡ seat.old.slips)) }
+    {
+        if self.claims == 0 || !self.has_sent(&copies.journal) {
+            return None;
+        }
+        let before = self.sent;
+        let sent = before.checked_add(copies.journal.done.outputs.packets.len() as u64)?;
+        let EntryCopies {
+            journal,
+            seat: seated,
+            slip,
+        } = copies;
+        self.claims -= 1;
+        self.sent = sent;
+        self.noted.push_reserved(Noted {
+            entry: journal,
+            before,
+        });
+        let number = self.noted.len() as u64;
+        seat.add(&mut self.book, Slip::make(number, before, seated));
+        Some(Slip::make(number, before, slip))
+    }
+}
