@@ -1,0 +1,15 @@
+use Rattle.std.proofs.Common.{◌≡◌, List, refl, sym, subst, inl, inr}
+use Rattle.mc_model.specs.synod.Lists.{In}
+use Rattle.node_core.specs.Nodes.{Standing}
+use Rattle.node_threads.proofs.cluster.members_of.Goals as goal
+
+pub loop-node-init : goal.loop-node-init
+loop-node-init g c = λ node among. c.requires node (subst (λ (ns : List (Standing _)). In node ns) c.from_vec-nodes.ensures.items among)
+
+pub begin-requires : goal.begin-requires
+begin-requires g c =
+    c.loop-node.invariant c.in-Some.node (subst (λ (ns : List (Standing _)). In c.in-Some.node ns) (sym c.in-Some.ensures.items) (inl refl))
+
+pub loop-node-preserved : goal.loop-node-preserved
+loop-node-preserved g c = λ node among.
+    c.loop-node.invariant node (subst (λ (ns : List (Standing _)). In node ns) (sym c.in-Some.ensures.items) (inr among))

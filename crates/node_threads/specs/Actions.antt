@@ -1,0 +1,21 @@
+-- What is handed in to a node (own).
+use Rattle.std.specs.Prelude.{ℕ, List}
+use Rattle.mc_model.specs.synod.Lists.{In}
+use Rattle.mc_model.specs.cluster.Steps.{Cluster}
+use Rattle.node_model.specs.Kept.{Kept}
+use Rattle.node_core.specs.Nodes.{Standing}
+use Rattle.journal_parts.specs.Members.{IsBeginning}
+use Rattle.world.specs.declared.step.Step.{Step}
+use Rattle.world.specs.declared.step.Step.TheVariants as steps
+use Rattle.node_threads.specs.declared.action.Action.{Action}
+use Rattle.node_threads.specs.declared.action.Action.TheVariants as actions
+
+-- the step that it is
+abbrev pub step_of : Action → Step
+step_of (actions.Deliver number node) = steps.Deliver number node
+step_of (actions.Request node account request) = steps.Request node account request
+step_of (actions.Tick node moment up) = steps.Tick node moment up
+
+-- each of these nodes is one of the cluster, and stands where the journal begins
+abbrev pub AllBegin : {S : Type 0} → Cluster → (ℕ → Kept) → List (Standing S) → Type 0
+AllBegin {S} cluster kept nodes = (node : Standing S) → In node nodes → IsBeginning cluster kept node

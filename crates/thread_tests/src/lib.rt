@@ -1,0 +1,9 @@
+//! Tests of the nodes of a cluster in threads.
+#![tactic(auto)]
+
+#[cfg(test)]
+mod lives;
+#[cfg(test)]
+mod same;
+#[cfg(test)]
+mod tables;
