@@ -155,17 +155,18 @@ back => Accepted 2 1000100002
 tick 946684800 sme1 => Other
 back => Nothing";
 
-// The numbers of the first two messages whose attempt could be granted.
-fn grantable(node: &Node<ListStore>) -> [Option<u64>; 2] {
-    let first = node.grantable_after(None);
-    let second = grantable_behind(node, first);
-    [first.map(MsgId::number), second.map(MsgId::number)]
+// The number of the next message behind this one whose attempt could be granted.
+fn grantable_behind(node: &Node<ListStore>, after: Option<MsgId>) -> Option<u64> {
+    let id = node.grantable_after(after)?;
+    Some(id.number())
 }
 
-// The next one behind a message, if there is one.
-fn grantable_behind(node: &Node<ListStore>, first: Option<MsgId>) -> Option<MsgId> {
-    let id = first?;
-    node.grantable_after(Some(id))
+// Of the first message of all, and of the first one behind message 1000100001.
+fn grantable(node: &Node<ListStore>) -> [Option<u64>; 2] {
+    [
+        grantable_behind(node, None),
+        grantable_behind(node, first_id()),
+    ]
 }
 
 #[test]
@@ -180,5 +181,6 @@ fn an_attempt_is_found_until_it_is_granted(rt: HostRuntime) {
     drop(node);
     let both = [Some(1000100001), Some(1000100002)];
     assert_same(&rt, &(before, chosen), &([None, None], both));
-    assert_same(&rt, &(refused, left), &(None, [Some(1000100002), None]));
+    let last = [Some(1000100002), Some(1000100002)];
+    assert_same(&rt, &(refused, left), &(None, last));
 }
