@@ -3,7 +3,7 @@
 
     tools/weaken.py [--rt COMMAND] [--jobs N] [NAME ..]
 
-With N jobs, N copies are worked on at once. A weakening is a file of tools/weakenings: a line `law: PATH`, and `file:`, `old:` and `new:`,
+With N jobs, N copies are worked on at once. A weakening is a file of tools/weakenings: a line `law: PATH`, and `file:`, `old:` and `new:`;
 the old text stands once in the file.
 (A line's end within a text is written as the character U+23CE.) If a crate below the law's is refused first, the lemma that failed there is told.
 A copy has the crates on which the laws stand that are tried there, and no others. A weakening may change a proof, too, that names what is weakened: then it
