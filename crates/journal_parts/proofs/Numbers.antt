@@ -14,6 +14,7 @@ use Rattle.mc_model.specs.synod.Lists.{In}
 use Rattle.mc_model.specs.synod.Packet.{Packet}
 use Rattle.mc_model.specs.cluster.Steps.{Cluster}
 use Rattle.mc_parts.proofs.Membership.{at_place, in_either}
+use Rattle.sim_net.proofs.Numbers.{split_at}
 use Rattle.synod_acceptor.specs.Packets.{packet_of}
 use Rattle.synod_acceptor.specs.declared.packet.Packet.{Packet as Sent}
 use Rattle.world.specs.Runs.{node_at}
@@ -25,22 +26,6 @@ use Rattle.journal_parts.specs.declared.noted.Noted.{Noted}
 use Rattle.journal_parts.specs.declared.carried.Carried.{Carried}
 use Rattle.journal_parts.specs.Entries.{IsSound, NamesASave, entry_of, number_by, number_of}
 use Rattle.journal_parts.specs.Registers.{AreNumbered, CameFrom, HasPacket, IsCarried, IsNumberedIn, IsRegister, count_in, entries_of}
-
--- ---- a list cut at an index
-
-pub record IsCutAt {X : Type 0} (xs : List X) (place : ℕ) (x : X) : Type 0 where
-  pub front : List X
-  pub back : List X
-  pub split : xs ≡ front ++ x ∷ back
-  pub place_is : length front ≡ place
-
-cut_at : {X : Type 0} (xs : List X) (place : ℕ) (x : X) → slice_get xs place ≡ Some x → IsCutAt xs place x
-cut_at [] place x is = absurd (cc)
-cut_at (first ∷ xs) zero x is =
-    let same : first ≡ x = cc in record { front = []; back = xs; split = ap (λ y. y ∷ xs) same; place_is = refl }
-cut_at (first ∷ xs) (suc place) x is =
-    let it = cut_at xs place x is in
-    record { front = first ∷ it.front; back = it.back; split = ap (λ ys. first ∷ ys) it.split; place_is = ap suc it.place_is }
 
 -- ---- the packets of an entry
 
@@ -82,7 +67,7 @@ more_behind packets first later =
 number_here : (packets sent : List Packet) (place number : ℕ) (packet : Packet) → slice_get sent place ≡ Some packet →
     number ≡ length packets + (place + 1) → HasItsNumber 0 (sent_behind packets sent) number packet
 number_here packets sent place number packet is counted =
-    let it = cut_at sent place packet is in
+    let it = split_at sent place packet is in
     let least : 1 ≤ number = omega (arith, counted) in
     let older = length-append (reverse it.front) packets in
     let turned = length-reverse it.front in

@@ -202,7 +202,8 @@ impl<S: StableStore, L: Begins> Member<S, L> {
 
     /// Prepares a start anew: it changes nothing but the room for entries. An `Err` is want of memory.
     pub fn prepare_anew(&mut self) -> Result<Anew, AllocError>
-        ensures anew { IfOk result (λ anew. (anew.step ≡ steps.Restart self.old.post.node.kept.setup.node) × (anew.packet ≡ packet_halted self.old.post.halted)) }
+        ensures step { IfOk result (λ anew. anew.step ≡ steps.Restart self.old.post.node.kept.setup.node) }
+        ensures packet { IfOk result (λ anew. anew.packet ≡ packet_halted self.old.post.halted) }
         ensures room { OnOk result (1 ≤ self.new.room) }
         ensures post { self.new.post ≡ self.old.post }
         ensures own { self.new.own ≡ self.old.own }
