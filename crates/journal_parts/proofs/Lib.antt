@@ -3,3 +3,5 @@ pub mod Numbers
 pub mod Readies
 pub mod Members
 pub mod Reopening
+pub mod Closing
+pub mod Marking

@@ -1,5 +1,7 @@
 pub mod Refusals
 pub mod Entries
 pub mod Slips
+pub mod Marks
 pub mod Registers
 pub mod Members
+pub mod Closing

@@ -2,10 +2,12 @@
 
 ghost use Rattle.std.specs.Prelude.{◌≡◌, IfOk, IsTrue, None};
 ghost use Rattle.std.specs.Arc.{arc_value};
+ghost use Rattle.world.specs.Runs.{node_at};
 ghost use Rattle.journal_laws.specs.Likeness.{AreAlike};
 ghost use Rattle.journal_parts.specs.Entries.{done_of, entry_of, number_in};
 
 use crate::done::Done;
+use mc_types::NodeNo;
 use node_core::Found;
 use std::alloc::AllocError;
 use std::sync::Arc;
@@ -45,6 +47,21 @@ impl Entry {
             done: Arc::try_clone(&self.done)?,
             unfinished: self.unfinished,
         })
+    }
+
+    /// The node that took the step.
+    pub(crate) fn node(&self) -> NodeNo
+        ensures { result ≡ node_at (entry_of self.now).done.step }
+    {
+        match self.done.step {
+            Step::Deliver { node, .. }
+            | Step::Request { node, .. }
+            | Step::Tick { node, .. }
+            | Step::Grant { node, .. }
+            | Step::Answered { node, .. }
+            | Step::Crash { node, .. }
+            | Step::Restart { node } => node,
+        }
     }
 
     /// The number of the packet that came by it, or in the save of whose step the node had stopped.

@@ -1,13 +1,14 @@
 //! A node and its own steps, under its lock.
 
-ghost use Rattle.std.specs.Prelude.{◌≡◌, ◌≤◌, ◌∷◌, ◌++◌, ◌||◌, [], None, IfOk, OnErr, OnOk, false, true};
+ghost use Rattle.std.specs.Prelude.{◌≡◌, ◌≤◌, ◌∷◌, ◌++◌, ◌||◌, [], None, IfOk, OnErr, OnOk, false, true, map};
 ghost use Rattle.node_core.specs.Nodes.{IsLifeOf};
 ghost use Rattle.node_core.specs.Permits.{IsAnswered, IsGrant, is_life_of};
 ghost use Rattle.world.specs.declared.step.Step.TheVariants as steps;
 ghost use Rattle.journal_laws.specs.Journals.{IsInRange};
 ghost use Rattle.world.specs.Runs.{node_at};
-ghost use Rattle.journal_parts.specs.Entries.{IsAnew, done_of};
-ghost use Rattle.journal_parts.specs.Members.{CanBeTaken, ComesWith, IsBeginning, packet_halted};
+ghost use Rattle.node_core.specs.Setups.{IsSetup};
+ghost use Rattle.journal_parts.specs.Entries.{IsAnew, done_of, entry_of};
+ghost use Rattle.journal_parts.specs.Members.{CanBeTaken, ComesWith, IsBeginning, IsMember, packet_halted, posted};
 
 use crate::anew::Anew;
 use crate::begins::Begins;
@@ -239,5 +240,27 @@ impl<S: StableStore, L: Begins> Member<S, L> {
             unfinished: save,
         });
         Ok((life, copies))
+    }
+
+    /// Its entries, the oldest first.
+    pub(crate) fn own(&self) -> &[Entry]
+        ensures { map entry_of result.now ≡ self.now.own }
+    {
+        self.own.as_slice()
+    }
+
+    /// What a proof takes of it: its entries are its own run, and it is one of nine nodes at most. The call does nothing.
+    pub(crate) fn is_own_run(&self)
+        ensures run { IsMember S.stored L.cluster L.kept self.now.post self.now.own }
+        ensures setup { IsSetup self.now.post.node.kept.setup }
+    {
+        self.post.node.bounds();
+    }
+
+    /// The node at its post, once the journal is done with.
+    pub fn into_post(self) -> Post<S>
+        ensures { posted result ≡ self.post }
+    {
+        self.post
     }
 }

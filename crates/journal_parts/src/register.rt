@@ -16,6 +16,7 @@ use crate::begins::Begins;
 use crate::carried::Carried;
 use crate::copies::EntryCopies;
 use crate::entry::Entry;
+use crate::marks::Marks;
 use crate::noted::Noted;
 use crate::refusal::Refusal;
 use crate::seat::Seat;
@@ -37,15 +38,17 @@ pub const MOST_SEATS: u64 = 1_000_000;
 #[derive(Drop)]
 pub struct Register<L: Begins> {
     // Room for all entries is made as it opens.
-    noted: Vec<Noted>,
+    pub(crate) noted: Vec<Noted>,
     claims: usize,
     // The packets of earlier parts that may still come, by ascending numbers.
-    carried: Vec<Carried>,
+    pub(crate) carried: Vec<Carried>,
     // How many packets have numbers.
-    sent: u64,
+    pub(crate) sent: u64,
     book: Book<L>,
     seats: Share<L>,
     seats_left: u64,
+    // One for each entry that there is room for.
+    pub(crate) marks: Marks,
 }
 
 impl<L: Begins> Model for Register<L> {
@@ -67,7 +70,8 @@ impl<L: Begins> Model for Register<L> {
         × (vec_len r.noted + r.claims ≤ vec_capacity r.noted)
         × (r.book.total ≡ vec_len r.noted)
         × (r.seats.parts ≡ r.seats_left)
-        × (r.seats.amount ≡ 0) };
+        × (r.seats.amount ≡ 0)
+        × (vec_capacity r.noted ≤ r.marks.most) };
 }
 
 impl<L: Begins> Register<L> {
@@ -82,6 +86,7 @@ impl<L: Begins> Register<L> {
         ensures seats { IfOk result (λ register. register.seats ≡ 1000000) }
     {
         let noted = Vec::with_capacity(alloc, MOST_ENTRIES)?;
+        let marks = Marks::make(alloc, MOST_ENTRIES)?;
         let (book, seats) = blank.open::<L>();
         Ok(Register {
             noted,
@@ -91,6 +96,7 @@ impl<L: Begins> Register<L> {
             book,
             seats,
             seats_left: MOST_SEATS,
+            marks,
         })
     }
 

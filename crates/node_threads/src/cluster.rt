@@ -1,6 +1,7 @@
 //! A cluster of nodes in threads.
 
-ghost use Rattle.std.specs.Prelude.{◌≡◌, ◌∷◌, ◌++◌, [], IfErr, IfOk, IfSome, OnErr};
+ghost use Rattle.std.specs.Prelude.{◌≡◌, ◌≤◌, ◌∷◌, ◌++◌, [], IfErr, IfOk, IfSome, OnErr, length};
+ghost use Rattle.std.specs.Vec.{vec_capacity, vec_len};
 ghost use Rattle.world.specs.declared.step.Step.TheVariants as steps;
 ghost use Rattle.node_threads.specs.Actions.{AllBegin, step_of};
 
@@ -8,7 +9,7 @@ use crate::action::Action;
 use crate::permitting::{Answer, conclude, granted, node_of, started};
 use crate::taking::take;
 use delivery::Outcome;
-use journal_parts::{Begins, Member, Refusal, Register, Seat, Slip};
+use journal_parts::{Begins, Member, Post, Refusal, Register, Seat, Slip};
 use mc_types::{MsgId, NodeNo};
 use node_core::{Life, Node, Permit};
 use stable_store::StableStore;
@@ -22,10 +23,23 @@ use world::Step;
 /// for a moment then; none is held while another node works.
 #[derive(Drop)]
 pub struct Cluster<S: StableStore, L: Begins> {
-    alloc: Global,
+    pub(crate) alloc: Global,
     // Node n stands at the place n - 1.
-    members: Vec<Mutex<Member<S, L>>>,
-    register: Mutex<Register<L>>,
+    pub(crate) locks: Vec<Mutex<Member<S, L>>>,
+    pub(crate) register: Mutex<Register<L>>,
+    pub(crate) rooms: Rooms<S, L>,
+    pub(crate) ghost count: { vec_len locks ≡ L.cluster.nodes },
+    pub(crate) ghost members_room: { vec_len locks ≤ vec_capacity rooms.members },
+    pub(crate) ghost posts_room: { vec_len locks ≤ vec_capacity rooms.posts },
+}
+
+/// Room for the nodes once they are out of their locks, since `close` takes no memory.
+#[derive(Drop)]
+pub(crate) struct Rooms<S: StableStore, L: Begins> {
+    pub(crate) members: Vec<Member<S, L>>,
+    pub(crate) posts: Vec<Post<S>>,
+    pub(crate) ghost no_member: { members.items ≡ [] },
+    pub(crate) ghost no_post: { posts.items ≡ [] },
 }
 
 impl<S: StableStore + Drop, L: Begins> Cluster<S, L> {
@@ -40,11 +54,17 @@ impl<S: StableStore + Drop, L: Begins> Cluster<S, L> {
         requires parts { (blank.parts ≡ L.parts) × (blank.parts ≡ 1000000) }
         requires packets { L.packets ≡ [] }
         requires begin { AllBegin L.cluster L.kept nodes.items }
+        requires count { length nodes.items ≡ L.cluster.nodes }
     {
+        let rooms = Rooms {
+            members: Vec::with_capacity(alloc, nodes.len())?,
+            posts: Vec::with_capacity(alloc, nodes.len())?,
+        };
         Ok(Cluster {
             alloc,
-            members: members_of(alloc, nodes)?,
+            locks: locks_of(alloc, nodes)?,
             register: Mutex::new(Register::open(alloc, blank)?),
+            rooms,
         })
     }
 }
@@ -183,23 +203,24 @@ impl<S: StableStore, L: Begins> Cluster<S, L> {
 
     /// The node with this number, under its lock.
     fn member(&self, node: NodeNo) -> Result<&Mutex<Member<S, L>>, Refusal> {
-        self.members
+        self.locks
             .get(node.number() as usize - 1)
             .ok_or(Refusal::NoSuchNode)
     }
 }
 
 /// Each node under a lock of its own, where the journal begins.
-fn members_of<S: StableStore + Drop, L: Begins>(
+fn locks_of<S: StableStore + Drop, L: Begins>(
     alloc: Global,
     nodes: Vec<Node<S>>,
 ) -> Result<Vec<Mutex<Member<S, L>>>, AllocError>
     requires { AllBegin L.cluster L.kept nodes.items }
+    ensures { IfOk result (λ locks. vec_len locks ≡ length nodes.items) }
 {
-    let mut members = Vec::with_capacity(alloc, nodes.len())?;
+    let mut locks = Vec::with_capacity(alloc, nodes.len())?;
     let mut nodes = VecDeque::from_vec(nodes);
     while let Some(node) = nodes.pop_front() {
-        members.push(Mutex::new(Member::begin(alloc, node)))?;
+        locks.push(Mutex::new(Member::begin(alloc, node)))?;
     }
-    Ok(members)
+    Ok(locks)
 }

@@ -2,10 +2,13 @@
 #![tactic(auto)]
 
 mod action;
+mod closing;
 mod cluster;
+mod opened;
 mod permitting;
 mod taking;
 
 pub use action::Action;
+pub use closing::{SeatsFault, SeatsOut};
 pub use cluster::Cluster;
-pub use journal_parts::{Begins, Done, Entry, Refusal, Seat, Slip, Unfinished};
+pub use journal_parts::{Begins, Done, Entry, Journal, Refusal, Seat, Slip, Unfinished};

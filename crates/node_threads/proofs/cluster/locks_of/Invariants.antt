@@ -1,6 +1,6 @@
 use Rattle.std.proofs.Common.{ℕ, length}
 use Rattle.node_threads.specs.Actions.{AllBegin}
-use Rattle.node_threads.proofs.cluster.members_of.Given as goal
+use Rattle.node_threads.proofs.cluster.locks_of.Given as goal
 
 abbrev pub invariant-loop-node : goal.invariant-loop-node
 invariant-loop-node g l = AllBegin g.L.Begins.cluster g.L.Begins.kept l.nodes.items

@@ -1,7 +1,7 @@
 use Rattle.std.proofs.Common.{◌≡◌, List, refl, sym, subst, inl, inr}
 use Rattle.mc_model.specs.synod.Lists.{In}
 use Rattle.node_core.specs.Nodes.{Standing}
-use Rattle.node_threads.proofs.cluster.members_of.Goals as goal
+use Rattle.node_threads.proofs.cluster.locks_of.Goals as goal
 
 pub loop-node-init : goal.loop-node-init
 loop-node-init g c = λ node among. c.requires node (subst (λ (ns : List (Standing _)). In node ns) c.from_vec-nodes.ensures.items among)

@@ -1,0 +1,7 @@
+use Rattle.std.proofs.Common.{drop, length}
+use Rattle.journal_parts.specs.Closing.{AllStand}
+use Rattle.journal_parts.proofs.register.Register.has_seats.Given as goal
+
+abbrev pub invariant-loop-seat : goal.invariant-loop-seat
+invariant-loop-seat g l =
+    AllStand (length g.L.Begins.packets) l.self.entries (drop l.seat-index l.seats) → AllStand (length g.L.Begins.packets) l.self.entries l.seats
