@@ -1,7 +1,7 @@
 -- What a journal is that was closed.
 use Rattle.std.proofs.Common.{◌≡◌, ℕ, zero, suc, ◌+◌, ◌≤◌, ◌<◌, Bool, true, false, List, [], ◌∷◌, ◌++◌, length, Some}
 use Rattle.std.proofs.Common.{refl, sym, ap, subst, ◌∙◌, inl, inr, arith, length-append}
-use Rattle.std.specs.Prelude.{◌==◌, if◌then◌else◌, reverse, slice_get}
+use Rattle.std.specs.Prelude.{◌==◌, if◌then◌else◌, slice_get}
 use Rattle.std.proofs.lemmas.Bool.Decides.{nat_tests}
 use Rattle.std.proofs.lemmas.List.{map-append}
 use Rattle.mc_model.specs.synod.Lists.{In}
@@ -13,13 +13,12 @@ use Rattle.node_model.specs.Kept.{Kept}
 use Rattle.node_core.specs.Keeping.{kept_of}
 use Rattle.sim_net.proofs.Numbers.{map_length, split_at}
 use Rattle.stable_store.specs.Stored.{Stored}
-use Rattle.journal_laws.specs.Journals.{Entry, IsInRange, IsOwnRun, done_in, entries_at, packets_sent}
+use Rattle.journal_laws.specs.Journals.{Entry, IsOwnRun, done_in, entries_at, packets_sent}
 use Rattle.journal_laws.specs.Likeness.{AreAlike, AreAllAlike}
-use Rattle.journal_laws.specs.Parts.{IsPart}
 use Rattle.journal_laws.proofs.Likeness.{own_alike}
 use Rattle.journal_parts.specs.declared.noted.Noted.{Noted}
 use Rattle.journal_parts.specs.declared.carried.Carried.{Carried}
-use Rattle.journal_parts.specs.Closing.{AllFound, AreSure, Closed, IsClosed, IsFound, StandsAt, entries_in}
+use Rattle.journal_parts.specs.Closing.{AllFound, AreSure, IsClosed, IsFound, StandsAt}
 use Rattle.journal_parts.specs.Entries.{IsSound, entry_of}
 use Rattle.journal_parts.specs.Members.{IsMember, Posted, packet_halted}
 use Rattle.journal_parts.specs.Registers.{AreNumbered, IsRegister, count_in, entries_of}
@@ -155,13 +154,11 @@ module _ {S : Type 0} (stored : S → Stored) (cluster : Cluster) (kept : ℕ �
       IsClosed stored cluster kept packets (record {
         noted = noted;
         carried = carried;
-        packets = reverse (packets_sent (entries_of noted)) ++ packets;
         sent = sent;
         posts = posts;
       })
   closed packets noted carried sent posts register count all = record {
     register = register;
-    numbered = refl;
     count = count;
     setups = λ place post is.
         let at : 0 + (place + 1) ≡ place + 1 = omega arith in

@@ -1,5 +1,5 @@
 -- A journal as it is closed: what is compared, and what is left (own).
-use Rattle.std.specs.Prelude.{◌≡◌, ℕ, zero, suc, ◌+◌, ◌≤◌, ◌<◌, false, List, [], ◌∷◌, ◌++◌, length, reverse, slice_get, Option, Some, None}
+use Rattle.std.specs.Prelude.{◌≡◌, ℕ, zero, suc, ◌+◌, ◌≤◌, ◌<◌, false, List, [], ◌∷◌, ◌++◌, length, slice_get, Option, Some, None}
 use Rattle.mc_model.specs.synod.Lists.{In}
 use Rattle.mc_model.specs.synod.Packet.{Packet}
 use Rattle.mc_model.specs.cluster.Steps.{Cluster, setup_of}
@@ -57,12 +57,10 @@ AllFound stored cluster kept entries node (post ∷ later) =
 
 -- ---- what is left
 
--- the entries with their numbers; the packets of earlier parts that may still come; all packets that have numbers, the newest first, which a program does not
--- keep, and how many there are; and the nodes, node 1 first
+-- the entries with their numbers, the packets of earlier parts that may still come, how many packets have numbers, and the nodes, node 1 first
 pub record Closed (S : Type 0) : Type 0 where
   pub noted : List Noted
   pub carried : List Carried
-  pub packets : List Packet
   pub sent : ℕ
   pub posts : List (Posted S)
 
@@ -82,7 +80,6 @@ AreSure {S} stored posts = (post : Posted S) → In post posts → (stored post.
 -- keeps that is not astray.
 pub record IsClosed {S : Type 0} (stored : S → Stored) (cluster : Cluster) (kept : ℕ → Kept) (packets : List Packet) (closed : Closed S) : Type 0 where
   pub register : IsRegister cluster packets closed.noted closed.carried closed.sent
-  pub numbered : closed.packets ≡ reverse (packets_sent (entries_in closed)) ++ packets
   pub count : length closed.posts ≡ cluster.nodes
   pub setups : (place : ℕ) (post : Posted S) → slice_get closed.posts place ≡ Some post → post.node.kept.setup ≡ setup_of cluster (place + 1)
   pub halts : (post : Posted S) → In post closed.posts → post.node.unfinished ≡ packet_halted post.halted

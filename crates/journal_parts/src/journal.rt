@@ -1,8 +1,7 @@
 //! A journal that was closed.
 
-ghost use Rattle.std.specs.Prelude.{◌≡◌, List, length, map, option_map};
+ghost use Rattle.std.specs.Prelude.{◌≡◌, length, map, option_map};
 ghost use Rattle.std.specs.Option.{option_copied};
-ghost use Rattle.mc_model.specs.synod.Packet.{Packet};
 ghost use Rattle.journal_parts.specs.Closing.{AllFound, IsClosed, entries_in, entry_at};
 ghost use Rattle.journal_parts.specs.Entries.{entry_of};
 ghost use Rattle.journal_parts.specs.Members.{posted};
@@ -24,13 +23,6 @@ pub struct Journal<S: StableStore> {
     carried: Vec<Carried>,
     sent: u64,
     posts: Vec<Post<S>>,
-    past: Past,
-}
-
-/// All packets that have numbers, the newest first, for contracts alone: no octet of them is kept.
-#[derive(Drop)]
-pub(crate) struct Past {
-    pub(crate) ghost packets: { List Packet },
 }
 
 impl<S: StableStore> Model for Journal<S> {
@@ -43,7 +35,6 @@ impl<S: StableStore> Model for Journal<S> {
     ghost view = { λ j. record {
       noted = j.noted.items;
       carried = j.carried.items;
-      packets = j.past.packets;
       sent = j.sent;
       posts = map posted j.posts.items;
     } };
@@ -87,7 +78,6 @@ impl<L: Begins> Register<L> {
             carried: self.carried,
             sent: self.sent,
             posts,
-            past: Past {},
         }
     }
 }

@@ -38,4 +38,5 @@ invariant_of-self g c =
       (let total = c.self.invariant.2 in let long = c.push_reserved.ensures.len in let counted = c.add.ensures.counted in omega (arith, total, long, counted)),
       c.self.invariant.3,
       c.self.invariant.4,
+      (let most = c.self.invariant.5 in let wide = c.push_reserved.ensures.capacity in omega (arith, most, wide)),
     )
