@@ -1,7 +1,7 @@
 -- What a journal is that was closed.
 use Rattle.std.proofs.Common.{◌≡◌, ℕ, zero, suc, ◌+◌, ◌≤◌, ◌<◌, Bool, true, false, List, [], ◌∷◌, ◌++◌, length, Some}
 use Rattle.std.proofs.Common.{refl, sym, ap, subst, ◌∙◌, inl, inr, arith, length-append}
-use Rattle.std.specs.Prelude.{◌==◌, if◌then◌else◌, slice_get}
+use Rattle.std.specs.Prelude.{◌==◌, ◌-◌, if◌then◌else◌, slice_get}
 use Rattle.std.proofs.lemmas.Bool.Decides.{nat_tests}
 use Rattle.std.proofs.lemmas.List.{map-append}
 use Rattle.mc_model.specs.synod.Lists.{In}
@@ -18,7 +18,7 @@ use Rattle.journal_laws.specs.Likeness.{AreAlike, AreAllAlike}
 use Rattle.journal_laws.proofs.Likeness.{own_alike}
 use Rattle.journal_parts.specs.declared.noted.Noted.{Noted}
 use Rattle.journal_parts.specs.declared.carried.Carried.{Carried}
-use Rattle.journal_parts.specs.Closing.{AllFound, AreSure, IsClosed, IsFound, StandsAt}
+use Rattle.journal_parts.specs.Closing.{AllFound, AreSure, IsClosed, IsFound, StandsAt, entry_at}
 use Rattle.journal_parts.specs.Entries.{IsSound, entry_of}
 use Rattle.journal_parts.specs.Members.{IsMember, Posted, packet_halted}
 use Rattle.journal_parts.specs.Registers.{AreNumbered, IsRegister, count_in, entries_of}
@@ -175,3 +175,11 @@ module _ {S : Type 0} (stored : S → Stored) (cluster : Cluster) (kept : ℕ �
     };
     lasts = lasts_from (entries_of noted) 0 posts all;
   }
+
+-- ---- an entry of what is left
+
+pub entry_place : (entries : List Entry) (number place : ℕ) → 1 ≤ number → place ≡ number - 1 → entry_at entries number ≡ slice_get entries place
+entry_place entries zero place least is = absurd (omega (arith, least))
+entry_place entries (suc before) place least is =
+    let same : before ≡ place = omega (arith, is) in
+    ap (λ (p : ℕ). slice_get entries p) same

@@ -37,7 +37,7 @@ pub struct SeatsOut<S: StableStore, L: Begins> {
     pub seats: Vec<Seat<L>>,
 }
 
-impl<S: StableStore, L: Begins> Cluster<S, L> {
+impl<S: StableStore + Drop, L: Begins> Cluster<S, L> {
     /// Closes a cluster with all seats that have slips: its journal, in which each node's entries are those that it has, and each slip of a seat stands at its
     /// number, which rise. It takes no memory.
     ///

@@ -31,7 +31,7 @@ pub(crate) struct Opened<S: StableStore, L: Begins> {
     ghost no_post: { posts.items ≡ [] },
 }
 
-impl<S: StableStore, L: Begins> Opened<S, L> {
+impl<S: StableStore + Drop, L: Begins> Opened<S, L> {
     /// Takes each value out of its lock. Nobody else has the cluster, so nobody waits; it takes no memory.
     pub(crate) fn of(cluster: Cluster<S, L>) -> Opened<S, L> {
         let Cluster {
@@ -128,7 +128,7 @@ fn finds_all<S: StableStore, L: Begins>(
 }
 
 /// What is left of each node, in room that is there.
-fn posts_of<S: StableStore, L: Begins>(
+fn posts_of<S: StableStore + Drop, L: Begins>(
     members: Vec<Member<S, L>>,
     mut posts: Vec<Post<S>>,
 ) -> Vec<Post<S>>
