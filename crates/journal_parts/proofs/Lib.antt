@@ -1,5 +1,6 @@
 pub mod Alike
 pub mod Numbers
+pub mod Unsent
 pub mod Readies
 pub mod Members
 pub mod Reopening
