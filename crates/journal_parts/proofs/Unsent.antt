@@ -1,5 +1,6 @@
 -- Numbers that no packet of a journal has.
-use Rattle.std.proofs.Common.{◌≡◌, ℕ, zero, suc, ◌+◌, ◌<◌, ◌≤◌, Bool, List, [], ◌∷◌, ◌++◌, length, get_or, true, false, Option, Some, None, IfNone, refl, sym, ap, subst, inl, inr, arith, length-append}
+use Rattle.std.proofs.Common.{◌≡◌, ℕ, zero, suc, ◌+◌, ◌<◌, ◌≤◌, Bool, List, [], ◌∷◌, ◌++◌, length, get_or, true, false, Option, Some, None, IfNone}
+use Rattle.std.proofs.Common.{refl, sym, ap, subst, inl, inr, arith, length-append}
 use Rattle.std.specs.Prelude.{nat_lt}
 use Rattle.std.specs.List.Sorted.{IsNonDecreasingBy, IsPartitionPoint, IsPartitionedBy}
 use Rattle.std.proofs.lemmas.Bool.{cases_lt}
