@@ -1,4 +1,5 @@
 pub mod Refusals
+pub mod Faults
 pub mod Entries
 pub mod Slips
 pub mod Marks

@@ -1,5 +1,5 @@
 -- Why a call on a cluster of nodes in threads does nothing (own).
-use Rattle.std.specs.Prelude.{ℕ}
+use Rattle.std.specs.Prelude.{◌≡◌, ℕ, Option, Some, None}
 use Rattle.node_core.specs.StepFault.{StepFault}
 use Rattle.node_core.specs.StepFault.TheVariants as faults
 use Rattle.stable_store.specs.declared.fault.StoreFault.{StoreFault}
@@ -28,6 +28,11 @@ refused_as faults.NotGranted = refusals.NotGranted
 refused_as faults.Device = refusals.Device
 refused_as faults.StrangeLife = refusals.StrangeLife
 refused_as faults.Memory = refusals.Memory
+
+-- a step that no fault stands against fails for want of memory alone
+abbrev pub IsRefusedAs : Option StepFault → Refusal → Type 0
+IsRefusedAs None refusal = refusal ≡ refusals.Memory
+IsRefusedAs (Some fault) refusal = refusal ≡ refused_as fault
 
 abbrev pub unopened_as : StoreFault → Refusal
 unopened_as stores.Device = refusals.Device

@@ -1,5 +1,5 @@
 -- The journal of all nodes, under its lock (own).
-use Rattle.std.specs.Prelude.{◌≡◌, ℕ, ◌+◌, List, [], ◌∷◌, ◌++◌, length, map, reverse, slice_get, Some}
+use Rattle.std.specs.Prelude.{◌≡◌, ℕ, ◌+◌, ◌<◌, List, [], ◌∷◌, ◌++◌, length, map, reverse, slice_get, Option, Some}
 use Rattle.std.specs.Arc.{arc_value}
 use Rattle.mc_model.specs.synod.Lists.{In}
 use Rattle.mc_model.specs.synod.Packet.{Packet}
@@ -7,10 +7,11 @@ use Rattle.mc_model.specs.cluster.Steps.{Cluster}
 use Rattle.synod_acceptor.specs.declared.packet.Packet.{Packet as Sent}
 use Rattle.synod_acceptor.specs.Packets.{packet_of}
 use Rattle.world.specs.Runs.{node_at}
+use Rattle.world.specs.declared.step.Step.{Step}
 use Rattle.journal_laws.specs.Journals.{Entry, HasItsNumber, IsInRange, WereSent, done_in, packets_sent}
 use Rattle.journal_parts.specs.declared.noted.Noted.{Noted}
 use Rattle.journal_parts.specs.declared.carried.Carried.{Carried}
-use Rattle.journal_parts.specs.Entries.{IsSound, entry_of, number_in}
+use Rattle.journal_parts.specs.Entries.{IsSound, entry_of, number_by, number_in}
 use Rattle.journal_parts.specs.Slips.{Slipped}
 
 -- the entries of a journal, the oldest first; for how many more there is room, and how much of it is claimed; and how many seats are left
@@ -60,6 +61,19 @@ HasPacket packets entries number packet = HasItsNumber 0 (reverse (packets_sent 
 abbrev pub CameFrom : List Packet → List Entry → Entry → Type 0
 CameFrom packets entries entry =
     (number : ℕ) (packet : Packet) → number_in entry ≡ Some number → entry.done.packet ≡ Some packet → HasPacket packets entries number packet
+
+-- no packet that these entries sent has this number: it is one of before, or behind them all
+abbrev pub IsUnsent : List Packet → List Entry → ℕ → Type 0
+IsUnsent packets entries number = length packets < number → length packets + length (packets_sent entries) < number
+
+-- what is given for a step is the packet with the number that it asks for
+abbrev pub IsAskedFor : List Packet → List Entry → Step → Option Sent → Type 0
+IsAskedFor packets entries step given =
+    (number : ℕ) (packet : Sent) → number_by step ≡ Some number → given ≡ Some packet → HasPacket packets entries number (packet_of packet)
+
+-- a step asks for a packet, and these entries sent none under its number
+abbrev pub AsksInVain : List Packet → List Entry → Step → Type 0
+AsksInVain packets entries step = (number : ℕ) × (number_by step ≡ Some number) × IsUnsent packets entries number
 
 -- the entry is the last one, and the slip has its number
 pub record HasEntered (old : List Entry) (entry : Entry) (new : List Entry) (slip : Slipped) : Type 0 where

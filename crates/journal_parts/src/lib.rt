@@ -33,3 +33,4 @@ pub use refusal::Refusal;
 pub use register::{MOST_ENTRIES, MOST_SEATS, Register};
 pub use seat::Seat;
 pub use slip::Slip;
+pub use synod_acceptor::Packet;

@@ -1,14 +1,18 @@
 //! A node and its own steps, under its lock.
 
-ghost use Rattle.std.specs.Prelude.{◌≡◌, ◌≤◌, ◌∷◌, ◌++◌, ◌||◌, [], None, IfOk, OnErr, OnOk, false, true, map};
+ghost use Rattle.std.specs.Prelude.{◌≡◌, ◌≤◌, ◌∷◌, ◌++◌, ◌||◌, [], None, IfOk, OnErr, OnOk, false, true, map, ◌<◌, ◌⊎◌, ◌↔◌, IfErr, IsErrOf, IsSome};
 ghost use Rattle.node_core.specs.Nodes.{IsLifeOf};
 ghost use Rattle.node_core.specs.Permits.{IsAnswered, IsGrant, is_life_of};
 ghost use Rattle.world.specs.declared.step.Step.TheVariants as steps;
 ghost use Rattle.journal_laws.specs.Journals.{IsInRange};
 ghost use Rattle.world.specs.Runs.{node_at};
 ghost use Rattle.node_core.specs.Setups.{IsSetup};
-ghost use Rattle.journal_parts.specs.Entries.{IsAnew, done_of, entry_of};
+ghost use Rattle.journal_parts.specs.Entries.{IsAnew, done_of, entry_of, number_by};
 ghost use Rattle.journal_parts.specs.Members.{CanBeTaken, ComesWith, IsBeginning, IsMember, packet_halted, posted};
+ghost use Rattle.journal_parts.specs.Faults.{fault_at};
+ghost use Rattle.journal_parts.specs.Refusals.{IsRefusedAs};
+ghost use Rattle.journal_parts.specs.declared.refusal.Refusal.TheVariants.{Broken, Damaged, Device, Memory, Spent};
+ghost use Rattle.stable_store.specs.Stored.{HasFailed};
 
 use crate::anew::Anew;
 use crate::begins::Begins;
@@ -78,6 +82,9 @@ impl<S: StableStore, L: Begins> Member<S, L> {
         ensures packet { IfOk result (λ ready. ready.done.packet ≡ packet) }
         ensures comes { IfOk result (λ ready. ComesWith step packet ready.input) }
         ensures room { OnOk result (1 ≤ self.new.room) }
+        ensures allowed { OnOk result (fault_at self.old.post.node step ≡ None) }
+        ensures broken { IsErrOf result Broken ↔ (self.old.post.node.broken ≡ true) }
+        ensures faults { IfErr result (IsRefusedAs (fault_at self.old.post.node step)) }
         ensures post { self.new.post ≡ self.old.post }
         ensures own { self.new.own ≡ self.old.own }
     {
@@ -96,7 +103,8 @@ impl<S: StableStore, L: Begins> Member<S, L> {
     }
 
     /// Commits a step of this node that was prepared, if the node is as it was then, and adds its entry to its own. It takes no memory but what the store
-    /// takes. An `Err` is Broken, Device or Memory, and adds nothing.
+    /// takes. Broken exactly if a save failed before; Device, at the step of a packet alone, only if the device failed, and then the node is Broken; else an
+    /// `Err` is Memory, from the store. Each adds nothing.
     #[tactic(auto, using(crate::proofs::Members::member_more, crate::proofs::Members::member_rests))]
     pub fn commit(&mut self, ready: Ready) -> Result<EntryCopies, Refusal>
         requires was { ready.was ≡ self.old.post.node.kept }
@@ -106,6 +114,11 @@ impl<S: StableStore, L: Begins> Member<S, L> {
         ensures entry { IfOk result (λ copies. copies ≡ record { done = done_of ready.done; unfinished = None }) }
         ensures own { IfOk result (λ copies. self.new.own ≡ self.old.own ++ copies ∷ []) }
         ensures err { OnErr result (self.new.own ≡ self.old.own) }
+        ensures broken { IsErrOf result Broken ↔ (self.old.post.node.broken ≡ true) }
+        ensures device { IsErrOf result Device → (self.new.post.node.broken ≡ true) × IsSome (number_by ready.done.step) }
+        ensures rose { IsErrOf result Device → HasFailed (S.stored self.old.post.node.store) (S.stored self.new.post.node.store) }
+        ensures wants { IsErrOf result Memory → IsSome (number_by ready.done.step) }
+        ensures faults { IfErr result (λ refusal. (refusal ≡ Broken) ⊎ (refusal ≡ Device) ⊎ (refusal ≡ Memory)) }
         ensures astray { self.new.post.astray ≡ false }
         ensures setup { self.new.post.node.kept.setup ≡ self.old.post.node.kept.setup }
     {
@@ -216,8 +229,8 @@ impl<S: StableStore, L: Begins> Member<S, L> {
     }
 
     /// Starts its node anew, if the life is its own and it is not astray, and adds the entry of it to its own; the new life, and the entry for those that share
-    /// it. An `Err` is Device, Spent, Damaged or Memory, and adds nothing; it is astray, and the answer Damaged, if its store gave an incarnation that was
-    /// used.
+    /// it. An `Err` is Device, Spent, Damaged or Memory, Device only if the device failed, and adds nothing; it is astray, and the answer Damaged, if its store
+    /// gave an incarnation that was used. Each hands back the life of the node, which is the one that was handed in, unless it is astray.
     pub fn start_anew(
         &mut self,
         life: Life,
@@ -231,6 +244,14 @@ impl<S: StableStore, L: Begins> Member<S, L> {
         ensures entry { IfOk result (λ started. IsAnew anew started.1) }
         ensures own { IfOk result (λ started. self.new.own ≡ self.old.own ++ started.1 ∷ []) }
         ensures err { OnErr result (self.new.own ≡ self.old.own) }
+        ensures begun { IfOk result (λ started. IsLifeOf self.new.post.node started.0) }
+        ensures later { IfOk result (λ started. life.incarnation < started.0.incarnation) }
+        ensures setup { self.new.post.node.kept.setup ≡ self.old.post.node.kept.setup }
+        ensures faults { IfErr result (λ failed. (failed.0 ≡ Device) ⊎ (failed.0 ≡ Damaged) ⊎ (failed.0 ≡ Spent) ⊎ (failed.0 ≡ Memory)) }
+        ensures rose { IfErr result (λ failed. failed.0 ≡ Device → HasFailed (S.stored self.old.post.node.store) (S.stored self.new.post.node.store)) }
+        ensures strays { IfErr result (λ failed. self.new.post.astray ≡ true → failed.0 ≡ Damaged) }
+        ensures life { IfErr result (λ failed. self.new.post.astray ≡ false → failed.1 ≡ life) }
+        ensures left { IfErr result (λ failed. IsLifeOf self.new.post.node failed.1) }
     {
         let Anew { done, mut copies } = anew;
         let (life, save) = self.post.reopen(life)?;

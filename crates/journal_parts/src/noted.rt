@@ -1,8 +1,8 @@
 //! An entry at its place in the journal.
 
-ghost use Rattle.std.specs.Prelude.{◌≡◌, IfSome};
+ghost use Rattle.std.specs.Prelude.{◌≡◌, ◌+◌, ◌<◌, IfNone, IfSome};
 ghost use Rattle.std.specs.Option.{option_copied};
-ghost use Rattle.journal_parts.specs.Registers.{IsNumberedIn};
+ghost use Rattle.journal_parts.specs.Registers.{IsNumberedIn, count_in};
 
 use crate::entry::Entry;
 use synod_acceptor::Packet;
@@ -15,9 +15,10 @@ pub(crate) struct Noted {
 }
 
 impl Noted {
-    /// The packet that it sent under this number, if it sent one under it.
+    /// The packet that it sent under this number; none exactly if it sent none under it.
     pub(crate) fn packet(&self, number: u64) -> Option<&Packet>
-        ensures { IfSome (option_copied result) (IsNumberedIn self.now number) }
+        ensures some { IfSome (option_copied result) (IsNumberedIn self.now number) }
+        ensures none { IfNone result (self.now.before < number → self.now.before + count_in self.now < number) }
     {
         let place = number.checked_sub(self.before)?.checked_sub(1)?;
         self.entry.done.outputs.packets.get(place as usize)

@@ -1,6 +1,6 @@
 //! A node, and the save in which it stopped.
 
-ghost use Rattle.std.specs.Prelude.{◌≡◌, ◌⊎◌, None, Some, IfOk, IfSome, IsSome, OnErr, OnOk, false, true, option_map};
+ghost use Rattle.std.specs.Prelude.{◌≡◌, ◌⊎◌, ◌↔◌, ◌<◌, None, Some, IfErr, IfOk, IfSome, IsErrOf, IsSome, OnErr, OnOk, false, true, option_map};
 ghost use Rattle.std.specs.Option.{option_copied};
 ghost use Rattle.synod_acceptor.specs.Packets.{packet_of};
 ghost use Rattle.node_laws.specs.Steps.{IsWellMade};
@@ -11,7 +11,11 @@ ghost use Rattle.node_model.specs.Stepped.{stepped};
 ghost use Rattle.node_core.specs.Keeping.{kept_of};
 ghost use Rattle.node_core.specs.Steps.{input_of, outputs_of};
 ghost use Rattle.journal_parts.specs.Entries.{number_by, save_of};
+ghost use Rattle.journal_parts.specs.Faults.{fault_at};
 ghost use Rattle.journal_parts.specs.Members.{CanBeTaken, ComesWith, Reopens, Rests, Strays, Takes, halt_of, packet_halted, posted, save_by};
+ghost use Rattle.journal_parts.specs.Refusals.{IsRefusedAs};
+ghost use Rattle.journal_parts.specs.declared.refusal.Refusal.TheVariants.{Broken, Damaged, Device, Memory, Spent};
+ghost use Rattle.stable_store.specs.Stored.{HasFailed};
 
 use crate::coming::input_by;
 use crate::copies::EntryCopies;
@@ -48,11 +52,17 @@ impl<S: StableStore> Post<S> {
     /// exactly as `Node::prepare_step` says; else an `Err` is want of memory.
     pub(crate) fn prepare(&self, step: Step, packet: Option<Packet>) -> Result<Ready, Refusal>
         requires { CanBeTaken step packet }
+        ensures allowed { OnOk result (fault_at self.now.node step ≡ None) }
+        ensures broken { IsErrOf result Broken ↔ (self.now.node.broken ≡ true) }
+        ensures faults { IfErr result (IsRefusedAs (fault_at self.now.node step)) }
         ensures was { IfOk result (λ ready. ready.was ≡ self.now.node.kept) }
         ensures step { IfOk result (λ ready. ready.done.step ≡ step) }
         ensures packet { IfOk result (λ ready. ready.done.packet ≡ packet) }
         ensures comes { IfOk result (λ ready. ComesWith step packet ready.input) }
     {
+        if self.node.is_broken() {
+            return Err(Refusal::Broken);
+        }
         let input = input_by(&step, &packet)?;
         may_come(&self.node, &input);
         let pending = self.node.prepare_step(input)?;
@@ -64,14 +74,20 @@ impl<S: StableStore> Post<S> {
         })
     }
 
-    /// Commits what was prepared, if the node is as it was then, and gives the step back. It takes no memory but what the store takes. At Device, which comes
-    /// at the step of a packet alone, the post has the step; Broken, Device and Memory are all that it answers.
+    /// Commits what was prepared, if the node is as it was then, and gives the step back. It takes no memory but what the store takes. Broken exactly if a save
+    /// failed before; Device, at the step of a packet alone, only if the device failed: then the node is Broken, and the post has the step; else an `Err` is
+    /// Memory, from the store.
     pub(crate) fn commit(&mut self, pending: Pending, done: Arc<Done>) -> Result<Arc<Done>, Refusal>
         requires was { pending.was ≡ self.old.node.kept }
         requires comes { ComesWith (arc_value done).step (arc_value done).packet pending.input }
         ensures step { IfOk result (λ given. arc_value given ≡ arc_value done) }
         ensures taken { OnOk result (Takes S.stored (posted self.old) pending.input (posted self.new)) }
         ensures err { OnErr result (Rests S.stored (posted self.old) (posted self.new)) }
+        ensures broken { IsErrOf result Broken ↔ (self.old.node.broken ≡ true) }
+        ensures device { IsErrOf result Device → (self.new.node.broken ≡ true) × IsSome (number_by (arc_value done).step) }
+        ensures rose { IsErrOf result Device → HasFailed (S.stored self.old.node.store) (S.stored self.new.node.store) }
+        ensures wants { IsErrOf result Memory → IsSome (number_by (arc_value done).step) }
+        ensures faults { IfErr result (λ refusal. (refusal ≡ Broken) ⊎ (refusal ≡ Device) ⊎ (refusal ≡ Memory)) }
     {
         match self.node.commit(pending) {
             Ok(outputs) => {
@@ -116,8 +132,9 @@ impl<S: StableStore> Post<S> {
     }
 
     /// Opens the node again, if the life is its own and it is not astray: it keeps the records of its store and nothing else, in a later incarnation than its
-    /// last one. It gives the new life, and the save that the node had not finished, if one failed. Device and Damaged leave it Broken, Spent and Memory as it
-    /// was; but it is astray, and the answer Damaged, if its store gave an incarnation that was used.
+    /// last one. It gives the new life, and the save that the node had not finished, if one failed. Device, Damaged, Spent and Memory are all that it answers,
+    /// Device only if the device failed. Device and Damaged leave it Broken, Spent and Memory as it was; but it is astray, and the answer Damaged, if its store
+    /// gave an incarnation that was used. Each hands back the life of the node, which is the one that was handed in, unless it is astray.
     pub(crate) fn reopen(
         &mut self,
         life: Life,
@@ -127,6 +144,13 @@ impl<S: StableStore> Post<S> {
         requires halts { self.old.node.unfinished ≡ packet_halted (posted self.old).halted }
         ensures ok { IfOk result (λ opened. Reopens S.stored (posted self.old) (option_map save_of opened.1) (posted self.new)) }
         ensures err { OnErr result (Rests S.stored (posted self.old) (posted self.new) ⊎ Strays S.stored (posted self.old) (posted self.new)) }
+        ensures own { IfOk result (λ opened. IsLifeOf self.new.node opened.0) }
+        ensures later { IfOk result (λ opened. life.incarnation < opened.0.incarnation) }
+        ensures faults { IfErr result (λ failed. (failed.0 ≡ Device) ⊎ (failed.0 ≡ Damaged) ⊎ (failed.0 ≡ Spent) ⊎ (failed.0 ≡ Memory)) }
+        ensures rose { IfErr result (λ failed. failed.0 ≡ Device → HasFailed (S.stored self.old.node.store) (S.stored self.new.node.store)) }
+        ensures astray { IfErr result (λ failed. self.new.astray ≡ true → failed.0 ≡ Damaged) }
+        ensures life { IfErr result (λ failed. self.new.astray ≡ false → failed.1 ≡ life) }
+        ensures left { IfErr result (λ failed. IsLifeOf self.new.node failed.1) }
     {
         let last = life.incarnation().number();
         self.node.lists();

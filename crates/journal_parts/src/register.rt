@@ -1,16 +1,16 @@
 //! The journal of all nodes, under its lock.
 
-ghost use Rattle.std.specs.Prelude.{◌≡◌, ◌⊎◌, ◌↔◌, ◌+◌, ◌-◌, ◌≤◌, ◌<◌, [], ◌∷◌, ◌++◌, false, IfErr};
-ghost use Rattle.std.specs.Prelude.{IsErrOf, IfOk, IfSome, IfNone, OnErr, OnOk, IsTrue, length, map, option_map, None, Some};
+ghost use Rattle.std.specs.Prelude.{◌≡◌, ◌⊎◌, ◌↔◌, ◌+◌, ◌-◌, ◌≤◌, ◌<◌, [], ◌∷◌, ◌++◌, false, true, IfErr};
+ghost use Rattle.std.specs.Prelude.{IsErrOf, IfOk, IfSome, IfNone, IsSome, OnErr, OnOk, IsTrue, length, map, option_map, None, Some};
 ghost use Rattle.std.specs.Arc.{arc_value};
 ghost use Rattle.std.specs.Option.{option_copied};
 ghost use Rattle.synod_acceptor.specs.Packets.{packet_of};
 ghost use Rattle.world.specs.Runs.{node_at};
 ghost use Rattle.journal_laws.specs.Journals.{HasItsNumber, IsInRange};
-ghost use Rattle.journal_parts.specs.Entries.{IsSound, entry_of};
+ghost use Rattle.journal_parts.specs.Entries.{IsSound, entry_of, number_by, number_in};
 ghost use Rattle.journal_parts.specs.Members.{CanBeTaken, IsAct};
-ghost use Rattle.journal_parts.specs.Registers.{CameFrom, HasEntered, HasPacket};
-ghost use Rattle.journal_parts.specs.declared.refusal.Refusal.TheVariants.{Broken, Full};
+ghost use Rattle.journal_parts.specs.Registers.{AsksInVain, CameFrom, HasEntered, HasPacket, IsAskedFor, IsUnsent};
+ghost use Rattle.journal_parts.specs.declared.refusal.Refusal.TheVariants.{Broken, Full, Memory, NoSuchPacket};
 
 use crate::begins::Begins;
 use crate::carried::Carried;
@@ -116,14 +116,22 @@ impl<L: Begins> Register<L> {
     }
 
     /// Claims room for the entry of a step, and gives the packet that comes by it, if one does. Full exactly if no room is left; else Broken exactly if the
-    /// node is; else NoSuchPacket exactly if a packet is asked for and none has its number; else an `Err` is want of memory. Then nothing is claimed.
+    /// node is; else NoSuchPacket exactly if a packet is asked for and none has its number, neither one that an entry sent nor one of an earlier part that
+    /// may still come; else Memory, if there was none for the packet that comes by it. Then nothing is claimed.
     pub fn admit(&mut self, step: &Step, broken: bool) -> Result<Option<Packet>, Refusal>
         requires { IsAct step.now }
         ensures packet { IfOk result (CanBeTaken step.now) }
+        ensures asked { IfOk result (IsAskedFor L.packets self.old.entries step.now) }
         ensures works { OnOk result (broken ≡ false) }
         ensures claims { OnOk result (self.new.claims ≡ self.old.claims + 1) }
         ensures stays { OnErr result (self.new.claims ≡ self.old.claims) }
+        ensures full { IsErrOf result Full ↔ (self.old.room ≤ self.old.claims) }
+        ensures broken { IsErrOf result Broken ↔ ((self.old.claims < self.old.room) × (broken ≡ true)) }
+        ensures absent { IsErrOf result NoSuchPacket → AsksInVain L.packets self.old.entries step.now }
+        ensures wants { IsErrOf result Memory → IsSome (number_by step.now) }
+        ensures faults { IfErr result (λ refusal. (refusal ≡ Full) ⊎ (refusal ≡ Broken) ⊎ (refusal ≡ NoSuchPacket) ⊎ (refusal ≡ Memory)) }
         ensures entries { self.new.entries ≡ self.old.entries }
+        ensures room { self.new.room ≡ self.old.room }
         ensures seats { self.new.seats ≡ self.old.seats }
     {
         self.judge(broken)?;
@@ -136,7 +144,10 @@ impl<L: Begins> Register<L> {
     pub fn admit_anew(&mut self) -> Result<(), Refusal>
         ensures claims { OnOk result (self.new.claims ≡ self.old.claims + 1) }
         ensures stays { OnErr result (self.new.claims ≡ self.old.claims) }
+        ensures full { IsErrOf result Full ↔ (self.old.room ≤ self.old.claims) }
+        ensures faults { IfErr result (λ refusal. refusal ≡ Full) }
         ensures entries { self.new.entries ≡ self.old.entries }
+        ensures room { self.new.room ≡ self.old.room }
         ensures seats { self.new.seats ≡ self.old.seats }
     {
         self.judge(false)?;
@@ -149,6 +160,7 @@ impl<L: Begins> Register<L> {
         ensures room { OnOk result (self.now.claims < self.now.room) }
         ensures works { OnOk result (broken ≡ false) }
         ensures full { IsErrOf result Full ↔ (self.now.room ≤ self.now.claims) }
+        ensures broken { IsErrOf result Broken ↔ ((self.now.claims < self.now.room) × (broken ≡ true)) }
         ensures faults { IfErr result (λ refusal. (refusal ≡ Full) ⊎ (refusal ≡ Broken)) }
     {
         if self.claims >= self.room() {
@@ -167,10 +179,15 @@ impl<L: Begins> Register<L> {
         self.noted.capacity() - self.noted.len()
     }
 
-    /// The packet that comes by a step, if one does. NoSuchPacket exactly if a packet is asked for and none has its number; else an `Err` is want of memory.
+    /// The packet that comes by a step, if one does. NoSuchPacket exactly if a packet is asked for and none has its number; else Memory, if there was none for
+    /// that packet.
     fn packet_by(&self, step: &Step) -> Result<Option<Packet>, Refusal>
         requires { IsAct step.now }
-        ensures { IfOk result (CanBeTaken step.now) }
+        ensures packet { IfOk result (CanBeTaken step.now) }
+        ensures asked { IfOk result (IsAskedFor L.packets self.now.entries step.now) }
+        ensures absent { IsErrOf result NoSuchPacket → AsksInVain L.packets self.now.entries step.now }
+        ensures wants { IsErrOf result Memory → IsSome (number_by step.now) }
+        ensures faults { IfErr result (λ refusal. (refusal ≡ NoSuchPacket) ⊎ (refusal ≡ Memory)) }
     {
         let Step::Deliver { number, .. } = step else {
             return Ok(None);
@@ -185,6 +202,7 @@ impl<L: Begins> Register<L> {
     pub fn give_back(&mut self)
         ensures claims { self.new.claims ≡ self.old.claims - 1 }
         ensures entries { self.new.entries ≡ self.old.entries }
+        ensures room { self.new.room ≡ self.old.room }
         ensures seats { self.new.seats ≡ self.old.seats }
     {
         self.claims = self.claims.saturating_sub(1);
@@ -192,7 +210,8 @@ impl<L: Begins> Register<L> {
 
     /// The packet with this number, if one has it: one that an entry sent, or one of an earlier part that may still come.
     pub fn packet(&self, number: u64) -> Option<&Packet>
-        ensures { IfSome (option_copied result) (λ packet. HasPacket L.packets self.now.entries number (packet_of packet)) }
+        ensures some { IfSome (option_copied result) (λ packet. HasPacket L.packets self.now.entries number (packet_of packet)) }
+        ensures none { IfNone result (IsUnsent L.packets self.now.entries number) }
     {
         match self.carried_packet(number) {
             Some(packet) => Some(packet),
@@ -215,9 +234,10 @@ impl<L: Begins> Register<L> {
         Some(&carried.packet)
     }
 
-    /// One that an entry sent.
+    /// One that an entry sent. None exactly if none of them has the number.
     fn sent_packet(&self, number: u64) -> Option<&Packet>
-        ensures { IfSome (option_copied result) (λ packet. HasPacket L.packets self.now.entries number (packet_of packet)) }
+        ensures some { IfSome (option_copied result) (λ packet. HasPacket L.packets self.now.entries number (packet_of packet)) }
+        ensures none { IfNone result (IsUnsent L.packets self.now.entries number) }
     {
         let behind = self
             .noted
@@ -227,9 +247,10 @@ impl<L: Begins> Register<L> {
         noted.packet(number)
     }
 
-    /// Whether the packet that comes by an entry is the one that was sent under its number.
+    /// Whether the packet that comes by an entry, if one does, is the one that was sent under its number.
     fn has_sent(&self, entry: &Entry) -> bool
-        ensures { IsTrue result → CameFrom L.packets self.now.entries (entry_of entry.now) }
+        ensures sent { IsTrue result → CameFrom L.packets self.now.entries (entry_of entry.now) }
+        ensures none { number_in (entry_of entry.now) ≡ None → result ≡ true }
     {
         let (Some(number), Some(packet)) = (entry.number(), &entry.done.packet) else {
             return true;

@@ -1,6 +1,7 @@
 //! What is handed in to a node.
 
 ghost use Rattle.std.specs.Prelude.{◌≡◌};
+ghost use Rattle.journal_parts.specs.Faults.{IsCopied};
 ghost use Rattle.journal_parts.specs.Members.{IsAct};
 ghost use Rattle.world.specs.Runs.{node_at};
 ghost use Rattle.node_threads.specs.Actions.{step_of};
@@ -48,6 +49,7 @@ impl Action {
     pub fn into_step(self) -> Step
         ensures step { result ≡ step_of self }
         ensures act { IsAct result }
+        ensures copied { IsCopied result }
     {
         match self {
             Action::Deliver { number, node } => Step::Deliver { number, node },

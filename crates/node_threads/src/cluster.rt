@@ -1,12 +1,16 @@
 //! A cluster of nodes in threads.
 
-ghost use Rattle.std.specs.Prelude.{◌≡◌, ◌≤◌, ◌∷◌, ◌++◌, [], IfErr, IfOk, IfSome, OnErr, length};
+ghost use Rattle.std.specs.Prelude.{◌≡◌, ◌≤◌, ◌∷◌, ◌++◌, [], IfErr, IfOk, IfSome, OnErr, length, ◌⊎◌, ◌<◌, IsErrOf, IsSome};
 ghost use Rattle.std.specs.Vec.{vec_capacity, vec_len};
 ghost use Rattle.world.specs.declared.step.Step.TheVariants as steps;
+ghost use Rattle.journal_parts.specs.Entries.{number_by};
+ghost use Rattle.journal_parts.specs.declared.refusal.Refusal.TheVariants.{Broken, Damaged, Device, Full, Memory};
+ghost use Rattle.journal_parts.specs.declared.refusal.Refusal.TheVariants.{NoSeat, NoSuchNode, NoSuchPacket, NotGranted, Spent, StrangeLife};
 ghost use Rattle.node_threads.specs.Actions.{AllBegin, step_of};
+ghost use Rattle.node_threads.specs.Refusing.{HandsBack, IsNoGrant};
 
 use crate::action::Action;
-use crate::permitting::{Answer, conclude, granted, node_of, started};
+use crate::permitting::{Answer, admitted, conclude, granted, node_of, started};
 use crate::taking::take;
 use delivery::Outcome;
 use journal_parts::{Begins, Member, Post, Refusal, Register, Seat, Slip};
@@ -72,7 +76,8 @@ impl<S: StableStore + Drop, L: Begins> Cluster<S, L> {
 impl<S: StableStore, L: Begins> Cluster<S, L> {
     /// A seat with no slip. NoSeat exactly if none of its 1,000,000 is left.
     pub fn seat<R: Wait>(&self, rt: &R) -> Result<Seat<L>, Refusal>
-        ensures { IfOk result (λ seat. seat.slips ≡ []) }
+        ensures seat { IfOk result (λ seat. seat.slips ≡ []) }
+        ensures none { IfErr result (λ refusal. refusal ≡ NoSeat) }
     {
         self.register
             .lock(rt)
@@ -81,11 +86,16 @@ impl<S: StableStore, L: Begins> Cluster<S, L> {
     }
 
     /// Hands in a packet, a request or a tick to its node: the slip of the step, of which the seat keeps a copy. Of several refusals NoSuchNode is told first,
-    /// and then the one with the lowest number, but Memory last: Full, Broken, NoSuchPacket, Device. A refusal adds no slip.
+    /// and then the one with the lowest number, but Memory last: Full, Broken, NoSuchPacket, Device. NoSuchPacket and Device come at a packet alone. A refusal
+    /// adds no slip.
     pub fn act<R: Wait>(&self, rt: &R, seat: &mut Seat<L>, action: Action) -> Result<Slip, Refusal>
         ensures step { IfOk result (λ slip. slip.entry.done.step ≡ step_of action) }
         ensures slips { IfOk result (λ slip. seat.new.slips ≡ seat.old.slips ++ slip ∷ []) }
         ensures err { OnErr result (seat.new.slips ≡ seat.old.slips) }
+        ensures absent { IsErrOf result NoSuchPacket → IsSome (number_by (step_of action)) }
+        ensures device { IsErrOf result Device → IsSome (number_by (step_of action)) }
+        ensures faults { IfErr result (λ refusal. (refusal ≡ NoSuchNode) ⊎ (refusal ≡ Full) ⊎ (refusal ≡ Broken) ⊎ (refusal ≡ NoSuchPacket)
+            ⊎ (refusal ≡ Device) ⊎ (refusal ≡ Memory)) }
     {
         let node = action.node();
         let mut guard = self.member(node)?.lock(rt);
@@ -110,6 +120,8 @@ impl<S: StableStore, L: Begins> Cluster<S, L> {
         ensures slips { IfOk result (λ granted. seat.new.slips ≡ seat.old.slips ++ granted.0 ∷ []) }
         ensures life { IfOk result (λ granted. granted.1.life ≡ life.now) }
         ensures err { OnErr result (seat.new.slips ≡ seat.old.slips) }
+        ensures faults { IfErr result (λ refusal. (refusal ≡ NoSuchNode) ⊎ (refusal ≡ StrangeLife) ⊎ (refusal ≡ Full) ⊎ (refusal ≡ Broken) ⊎ IsNoGrant refusal
+            ⊎ (refusal ≡ Memory)) }
     {
         let node = life.node();
         let mut guard = self.member(node)?.lock(rt);
@@ -118,9 +130,7 @@ impl<S: StableStore, L: Begins> Cluster<S, L> {
             return Err(Refusal::StrangeLife);
         }
         member.within();
-        self.register
-            .lock(rt)
-            .admit(&Step::Grant { node, id }, member.is_broken())?;
+        admitted(rt, member, &self.register, &Step::Grant { node, id })?;
         match granted(member, seat, life, id) {
             Ok((permit, copies)) => match self.register.lock(rt).enter(seat, copies) {
                 Some(slip) => Ok((slip, permit)),
@@ -149,6 +159,9 @@ impl<S: StableStore, L: Begins> Cluster<S, L> {
         ensures step { IfOk result (λ slip. slip.entry.done.step ≡ steps.Answered permit.entry.life.node permit.entry.slot outcome) }
         ensures slips { IfOk result (λ slip. seat.new.slips ≡ seat.old.slips ++ slip ∷ []) }
         ensures err { OnErr result (seat.new.slips ≡ seat.old.slips) }
+        ensures permit { IfErr result (λ failed. HandsBack permit.entry failed.0 failed.1) }
+        ensures faults { IfErr result (λ failed. (failed.0 ≡ NoSuchNode) ⊎ (failed.0 ≡ StrangeLife) ⊎ (failed.0 ≡ Full) ⊎ (failed.0 ≡ Broken)
+            ⊎ (failed.0 ≡ NotGranted) ⊎ (failed.0 ≡ Memory)) }
     {
         match self.member(node_of(&permit)) {
             Ok(lock) => {
@@ -165,8 +178,9 @@ impl<S: StableStore, L: Begins> Cluster<S, L> {
     }
 
     /// Starts a node anew, in its next incarnation, with its stable records and nothing else: the slip of the step, of which the seat keeps a copy, and the new
-    /// life. Of several refusals StrangeLife is told first, and then the one with the lowest number, but Memory last: Full, Device, Spent, Damaged. A refusal
-    /// hands the life back, and adds no slip.
+    /// life, which is a later one of the same node. Of several refusals StrangeLife is told first, and then the one with the lowest number, but Memory last:
+    /// Full, Device, Spent, Damaged. A refusal hands back the life of the node, and adds no slip: it is the one that was handed in, but for Damaged, if the
+    /// store gave an incarnation that was used, and Full behind the step.
     pub fn restart<R: Wait>(
         &self,
         rt: &R,
@@ -176,6 +190,12 @@ impl<S: StableStore, L: Begins> Cluster<S, L> {
         ensures step { IfOk result (λ started. started.0.entry.done.step ≡ steps.Restart life.node) }
         ensures slips { IfOk result (λ started. seat.new.slips ≡ seat.old.slips ++ started.0 ∷ []) }
         ensures err { OnErr result (seat.new.slips ≡ seat.old.slips) }
+        ensures node { IfOk result (λ started. started.1.node ≡ life.node) }
+        ensures later { IfOk result (λ started. life.incarnation < started.1.incarnation) }
+        ensures back { IfErr result (λ failed. failed.1.node ≡ life.node) }
+        ensures same { IfErr result (λ failed. (failed.0 ≡ Full) ⊎ (failed.0 ≡ Damaged) ⊎ (failed.1 ≡ life)) }
+        ensures faults { IfErr result (λ failed. (failed.0 ≡ NoSuchNode) ⊎ (failed.0 ≡ StrangeLife) ⊎ (failed.0 ≡ Full) ⊎ (failed.0 ≡ Device)
+            ⊎ (failed.0 ≡ Spent) ⊎ (failed.0 ≡ Damaged) ⊎ (failed.0 ≡ Memory)) }
     {
         let Ok(lock) = self.member(life.node()) else {
             return Err((Refusal::NoSuchNode, life));
@@ -201,8 +221,10 @@ impl<S: StableStore, L: Begins> Cluster<S, L> {
         }
     }
 
-    /// The node with this number, under its lock.
-    fn member(&self, node: NodeNo) -> Result<&Mutex<Member<S, L>>, Refusal> {
+    /// The node with this number, under its lock. NoSuchNode exactly if there is none.
+    fn member(&self, node: NodeNo) -> Result<&Mutex<Member<S, L>>, Refusal>
+        ensures { IfErr result (λ refusal. refusal ≡ NoSuchNode) }
+    {
         self.locks
             .get(node.number() as usize - 1)
             .ok_or(Refusal::NoSuchNode)

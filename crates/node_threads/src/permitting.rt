@@ -1,10 +1,14 @@
 //! Steps that stand on a life of their node, under its lock.
 
-ghost use Rattle.std.specs.Prelude.{◌≡◌, ◌≤◌, ◌∷◌, ◌++◌, [], None, IfErr, IfOk, IfSome, OnErr, OnOk, false, true};
+ghost use Rattle.std.specs.Prelude.{◌≡◌, ◌⊎◌, ◌||◌, ◌<◌, ◌≤◌, ◌∷◌, ◌++◌, [], None, IfErr, IfOk, IfSome, IsErrOf, OnErr, OnOk, false, true};
 ghost use Rattle.node_core.specs.Nodes.{IsLifeOf};
 ghost use Rattle.node_core.specs.Permits.{IsAnswered, is_life_of};
-ghost use Rattle.journal_parts.specs.Entries.{IsSound};
-ghost use Rattle.journal_parts.specs.Members.{packet_halted};
+ghost use Rattle.journal_parts.specs.Entries.{IsSound, number_by};
+ghost use Rattle.journal_parts.specs.Faults.{fault_at};
+ghost use Rattle.journal_parts.specs.Members.{IsAct, packet_halted};
+ghost use Rattle.journal_parts.specs.Refusals.{IsRefusedAs};
+ghost use Rattle.journal_parts.specs.declared.refusal.Refusal.TheVariants.{Broken, Damaged, Device, Full, Memory, NotGranted, Spent, StrangeLife};
+ghost use Rattle.node_threads.specs.Refusing.{HandsBack, IsNoGrant};
 ghost use Rattle.journal_laws.specs.Journals.{IsInRange};
 ghost use Rattle.world.specs.Runs.{node_at};
 ghost use Rattle.world.specs.declared.step.Step.TheVariants as steps;
@@ -17,8 +21,26 @@ use stable_store::StableStore;
 use std::sync::{Mutex, Wait};
 use world::Step;
 
+/// Claims room for the entry of a step by which no packet comes. Full, or else Broken, which comes only if the node takes no step.
+pub(crate) fn admitted<S: StableStore, L: Begins, R: Wait>(
+    rt: &R,
+    member: &Member<S, L>,
+    register: &Mutex<Register<L>>,
+    step: &Step,
+) -> Result<(), Refusal>
+    requires act { IsAct step.now }
+    requires unasked { number_by step.now ≡ None }
+    ensures works { OnOk result (member.now.post.node.broken ≡ false) }
+    ensures astray { OnOk result (member.now.post.astray ≡ false) }
+    ensures broken { IsErrOf result Broken → (member.now.post.astray || member.now.post.node.broken) ≡ true }
+    ensures faults { IfErr result (λ refusal. (refusal ≡ Full) ⊎ (refusal ≡ Broken)) }
+{
+    register.lock(rt).admit(step, member.is_broken())?;
+    Ok(())
+}
+
 /// Grants an attempt at a node that is not Broken, in a life of its incarnation: the permit, and the entry for those that share it. There is room for its slip
-/// then.
+/// then. Grant exactly as `Node::prepare_step` says; else an `Err` is want of memory.
 pub(crate) fn granted<'l, S: StableStore, L: Begins>(
     member: &mut Member<S, L>,
     seat: &mut Seat<L>,
@@ -33,6 +55,8 @@ pub(crate) fn granted<'l, S: StableStore, L: Begins>(
     ensures life { IfOk result (λ granted. granted.0.life ≡ life.now) }
     ensures room { OnOk result (1 ≤ seat.new.room) }
     ensures slips { seat.new.slips ≡ seat.old.slips }
+    ensures refused { IfErr result (IsRefusedAs (fault_at member.old.post.node (steps.Grant member.old.post.node.kept.setup.node id))) }
+    ensures faults { IfErr result (λ refusal. IsNoGrant refusal ⊎ (refusal ≡ Memory)) }
 {
     let step = Step::Grant {
         node: member.node(),
@@ -57,7 +81,7 @@ pub(crate) struct Answer<'l> {
 }
 
 /// Closes the attempt of a permit under the lock of its node, and enters the step in the journal. An `Err` adds no slip; a claim on the journal is given back
-/// then.
+/// then. Memory, and Full before the step, hand the permit back.
 pub(crate) fn conclude<'l, S: StableStore, L: Begins, R: Wait>(
     rt: &R,
     member: &mut Member<S, L>,
@@ -68,6 +92,9 @@ pub(crate) fn conclude<'l, S: StableStore, L: Begins, R: Wait>(
     ensures step { IfOk result (λ slip. slip.entry.done.step ≡ steps.Answered answer.entry.permit.life.node answer.entry.permit.slot answer.entry.outcome) }
     ensures slips { IfOk result (λ slip. seat.new.slips ≡ seat.old.slips ++ slip ∷ []) }
     ensures err { OnErr result (seat.new.slips ≡ seat.old.slips) }
+    ensures permit { IfErr result (λ failed. HandsBack answer.entry.permit failed.0 failed.1) }
+    ensures faults { IfErr result (λ failed. (failed.0 ≡ StrangeLife) ⊎ (failed.0 ≡ Full) ⊎ (failed.0 ≡ Broken) ⊎ (failed.0 ≡ NotGranted)
+        ⊎ (failed.0 ≡ Memory)) }
 {
     let Answer { permit, outcome } = answer;
     if is_of(member, &permit) {
@@ -90,6 +117,8 @@ fn conclude_own<'l, S: StableStore, L: Begins, R: Wait>(
     ensures step { IfOk result (λ slip. slip.entry.done.step ≡ steps.Answered answer.entry.permit.life.node answer.entry.permit.slot answer.entry.outcome) }
     ensures slips { IfOk result (λ slip. seat.new.slips ≡ seat.old.slips ++ slip ∷ []) }
     ensures err { OnErr result (seat.new.slips ≡ seat.old.slips) }
+    ensures permit { IfErr result (λ failed. HandsBack answer.entry.permit failed.0 failed.1) }
+    ensures faults { IfErr result (λ failed. (failed.0 ≡ Full) ⊎ (failed.0 ≡ Broken) ⊎ (failed.0 ≡ NotGranted) ⊎ (failed.0 ≡ Memory)) }
 {
     member.within();
     match answer_admitted(rt, member, register, &answer) {
@@ -101,23 +130,23 @@ fn conclude_own<'l, S: StableStore, L: Begins, R: Wait>(
     }
 }
 
-/// Claims room for the entry of a conclusion.
+/// Claims room for the entry of a conclusion. Full, or else Broken.
 fn answer_admitted<S: StableStore, L: Begins, R: Wait>(
     rt: &R,
     member: &Member<S, L>,
     register: &Mutex<Register<L>>,
     answer: &Answer<'_>,
 ) -> Result<(), Refusal>
-    ensures broken { OnOk result (member.now.post.node.broken ≡ false) }
+    ensures works { OnOk result (member.now.post.node.broken ≡ false) }
     ensures astray { OnOk result (member.now.post.astray ≡ false) }
+    ensures faults { IfErr result (λ refusal. (refusal ≡ Full) ⊎ (refusal ≡ Broken)) }
 {
     let step = Step::Answered {
         node: member.node(),
         slot: answer.permit.slot(),
         outcome: answer.outcome,
     };
-    register.lock(rt).admit(&step, member.is_broken())?;
-    Ok(())
+    admitted(rt, member, register, &step)
 }
 
 /// Gives the claim of a conclusion back that failed.
@@ -125,12 +154,15 @@ fn given_back<'l, L: Begins, R: Wait>(
     rt: &R,
     register: &Mutex<Register<L>>,
     failed: (Refusal, Option<Permit<'l>>),
-) -> (Refusal, Option<Permit<'l>>) {
+) -> (Refusal, Option<Permit<'l>>)
+    ensures refusal { result.0 ≡ failed.entry.0 }
+    ensures permit { result.1 ≡ failed.entry.1 }
+{
     register.lock(rt).give_back();
     failed
 }
 
-/// Enters a conclusion in the journal.
+/// Enters a conclusion in the journal. An `Err` is Full, and hands no permit back.
 fn entered<'l, L: Begins, R: Wait>(
     rt: &R,
     register: &Mutex<Register<L>>,
@@ -143,6 +175,8 @@ fn entered<'l, L: Begins, R: Wait>(
     ensures entry { IfOk result (λ slip. slip.entry ≡ copies) }
     ensures slips { IfOk result (λ slip. seat.new.slips ≡ seat.old.slips ++ slip ∷ []) }
     ensures err { OnErr result (seat.new.slips ≡ seat.old.slips) }
+    ensures full { IfErr result (λ failed. failed.0 ≡ Full) }
+    ensures spent { IfErr result (λ failed. failed.1 ≡ None) }
 {
     match register.lock(rt).enter(seat, copies) {
         Some(slip) => Ok(slip),
@@ -151,7 +185,10 @@ fn entered<'l, L: Begins, R: Wait>(
 }
 
 /// What is left of a permit after a refusal: Memory and Full hand it back.
-fn handed_back<'l>(refusal: Refusal, answer: Answer<'l>) -> (Refusal, Option<Permit<'l>>) {
+fn handed_back<'l>(refusal: Refusal, answer: Answer<'l>) -> (Refusal, Option<Permit<'l>>)
+    ensures refusal { result.0 ≡ refusal }
+    ensures permit { HandsBack answer.entry.permit result.0 result.1 }
+{
     let Answer { permit, outcome: _ } = answer;
     match refusal {
         Refusal::Memory | Refusal::Full => (refusal, Some(permit)),
@@ -170,7 +207,7 @@ fn is_of<S: StableStore, L: Begins>(member: &Member<S, L>, permit: &Permit<'_>) 
 }
 
 /// Closes the attempt of a permit of this node and incarnation, which is not Broken, with what came of it: the entry for those that share it. There is room for
-/// its slip then. Memory alone hands the permit back.
+/// its slip then. NotGranted exactly as `Node::prepare_step` says; else Memory, which alone hands the permit back.
 fn concluded<'l, S: StableStore, L: Begins>(
     member: &mut Member<S, L>,
     seat: &mut Seat<L>,
@@ -184,6 +221,8 @@ fn concluded<'l, S: StableStore, L: Begins>(
     ensures finished { IfOk result (λ copies. copies.unfinished ≡ None) }
     ensures room { OnOk result (1 ≤ seat.new.room) }
     ensures slips { seat.new.slips ≡ seat.old.slips }
+    ensures permit { IfErr result (λ failed. HandsBack answer.entry.permit failed.0 failed.1) }
+    ensures faults { IfErr result (λ failed. (failed.0 ≡ NotGranted) ⊎ (failed.0 ≡ Memory)) }
 {
     let Answer { permit, outcome } = answer;
     match answer_prepared(member, seat, permit.slot(), outcome) {
@@ -196,7 +235,7 @@ fn concluded<'l, S: StableStore, L: Begins>(
     }
 }
 
-/// Prepares what came of the attempt in a slot, and makes room for its slip.
+/// Prepares what came of the attempt in a slot, and makes room for its slip. NotGranted exactly as `Node::prepare_step` says; else an `Err` is want of memory.
 fn answer_prepared<S: StableStore, L: Begins>(
     member: &mut Member<S, L>,
     seat: &mut Seat<L>,
@@ -211,6 +250,7 @@ fn answer_prepared<S: StableStore, L: Begins>(
     ensures entries { OnOk result (1 ≤ member.new.room) }
     ensures room { OnOk result (1 ≤ seat.new.room) }
     ensures slips { seat.new.slips ≡ seat.old.slips }
+    ensures refused { IfErr result (IsRefusedAs (fault_at member.old.post.node (steps.Answered member.old.post.node.kept.setup.node slot outcome))) }
 {
     let step = Step::Answered {
         node: member.node(),
@@ -222,8 +262,9 @@ fn answer_prepared<S: StableStore, L: Begins>(
     Ok(ready)
 }
 
-/// Starts a node anew, in a life of its incarnation: the new life, and the entry for those that share it. There is room for its slip then. Damaged comes also
-/// if it is astray.
+/// Starts a node anew, in a life of its incarnation: the new life, which is a later one, and the entry for those that share it. There is room for its slip
+/// then. An `Err` is Device, Spent, Damaged or Memory; Damaged comes also if it is astray. Each hands back the life of the node, which is the one that was
+/// handed in but for Damaged.
 pub(crate) fn started<S: StableStore, L: Begins>(
     member: &mut Member<S, L>,
     seat: &mut Seat<L>,
@@ -234,6 +275,11 @@ pub(crate) fn started<S: StableStore, L: Begins>(
     ensures sound { IfOk result (λ started. IsSound started.1) }
     ensures room { OnOk result (1 ≤ seat.new.room) }
     ensures slips { seat.new.slips ≡ seat.old.slips }
+    ensures node { IfOk result (λ started. started.0.node ≡ life.node) }
+    ensures later { IfOk result (λ started. life.incarnation < started.0.incarnation) }
+    ensures back { IfErr result (λ failed. failed.1.node ≡ life.node) }
+    ensures same { IfErr result (λ failed. (failed.0 ≡ Damaged) ⊎ (failed.1 ≡ life)) }
+    ensures faults { IfErr result (λ failed. (failed.0 ≡ Device) ⊎ (failed.0 ≡ Damaged) ⊎ (failed.0 ≡ Spent) ⊎ (failed.0 ≡ Memory)) }
 {
     if member.is_astray() {
         return Err((Refusal::Damaged, life));
@@ -255,6 +301,7 @@ fn prepared<S: StableStore, L: Begins>(
     ensures entries { OnOk result (1 ≤ member.new.room) }
     ensures room { OnOk result (1 ≤ seat.new.room) }
     ensures slips { seat.new.slips ≡ seat.old.slips }
+    ensures memory { IfErr result (λ refusal. refusal ≡ Memory) }
 {
     let anew = member.prepare_anew()?;
     seat.make_room()?;

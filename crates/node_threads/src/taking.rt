@@ -1,16 +1,21 @@
 //! Steps that are taken under the lock of their node.
 
-ghost use Rattle.std.specs.Prelude.{◌≡◌, ◌∷◌, ◌++◌, [], IfOk, OnErr};
-ghost use Rattle.journal_parts.specs.Members.{IsAct};
+ghost use Rattle.std.specs.Prelude.{◌≡◌, ◌⊎◌, ◌||◌, ◌≤◌, ◌∷◌, ◌++◌, [], None, IfErr, IfOk, IsErrOf, IsSome, OnErr, OnOk, false, true};
+ghost use Rattle.journal_parts.specs.Entries.{number_by};
+ghost use Rattle.journal_parts.specs.Faults.{IsCopied, fault_at};
+ghost use Rattle.journal_parts.specs.Members.{CanBeTaken, IsAct};
+ghost use Rattle.journal_parts.specs.Refusals.{IsRefusedAs};
+ghost use Rattle.journal_parts.specs.declared.refusal.Refusal.TheVariants.{Broken, Device, Full, Memory, NoSuchPacket};
 ghost use Rattle.world.specs.Runs.{node_at};
 
-use journal_parts::{Begins, Member, Refusal, Register, Seat, Slip};
+use journal_parts::{Begins, EntryCopies, Member, Packet, Refusal, Register, Seat, Slip};
 use stable_store::StableStore;
 use std::sync::{Mutex, Wait};
 use world::Step;
 
 /// Takes a step of a node whose lock is held, and enters it in the journal. The journal's lock is held twice, but not while the step is prepared and saved. An
-/// `Err` adds no slip; a claim on the journal is given back then.
+/// `Err` adds no slip; a claim on the journal is given back then. Of several refusals the one with the lowest number is told first, but Memory last: Full,
+/// Broken, NoSuchPacket, Device. NoSuchPacket and Device come at the step of a packet alone.
 pub(crate) fn take<S: StableStore, L: Begins, R: Wait>(
     rt: &R,
     member: &mut Member<S, L>,
@@ -24,21 +29,46 @@ pub(crate) fn take<S: StableStore, L: Begins, R: Wait>(
     ensures slips { IfOk result (λ slip. seat.new.slips ≡ seat.old.slips ++ slip ∷ []) }
     ensures own { IfOk result (λ slip. member.new.own ≡ member.old.own ++ slip.entry ∷ []) }
     ensures err { OnErr result (seat.new.slips ≡ seat.old.slips) }
+    ensures works { OnOk result ((member.old.post.astray || member.old.post.node.broken) ≡ false) }
+    ensures broken { IsErrOf result Broken → (member.old.post.astray || member.old.post.node.broken) ≡ true }
+    ensures absent { IsErrOf result NoSuchPacket → IsSome (number_by step) }
+    ensures device { IsErrOf result Device → IsSome (number_by step) }
+    ensures faults { IsCopied step → IfErr result (λ refusal.
+        (refusal ≡ Full) ⊎ (refusal ≡ Broken) ⊎ (refusal ≡ NoSuchPacket) ⊎ (refusal ≡ Device) ⊎ (refusal ≡ Memory)) }
 {
     member.within();
     let packet = register.lock(rt).admit(&step, member.is_broken())?;
-    let taken = match member.prepare(step, packet) {
-        Ok(ready) => match seat.make_room() {
-            Ok(()) => member.commit(ready),
-            Err(_) => Err(Refusal::Memory),
-        },
-        Err(refusal) => Err(refusal),
-    };
-    match taken {
+    match committed(member, seat, step, packet) {
         Ok(copies) => register.lock(rt).enter(seat, copies).ok_or(Refusal::Full),
         Err(refusal) => {
             register.lock(rt).give_back();
             Err(refusal)
         }
     }
+}
+
+/// Takes a step of a node that works: the entry for those that share it. There is room for its slip then. An `Err` is Device, at the step of a packet alone,
+/// Memory, or as the step is refused; then the node has no other entry.
+fn committed<S: StableStore, L: Begins>(
+    member: &mut Member<S, L>,
+    seat: &mut Seat<L>,
+    step: Step,
+    packet: Option<Packet>,
+) -> Result<EntryCopies, Refusal>
+    requires node { node_at step ≡ member.old.post.node.kept.setup.node }
+    requires taken { CanBeTaken step packet }
+    requires works { member.old.post.node.broken ≡ false }
+    requires sound { member.old.post.astray ≡ false }
+    ensures step { IfOk result (λ copies. copies.done.step ≡ step) }
+    ensures finished { IfOk result (λ copies. copies.unfinished ≡ None) }
+    ensures own { IfOk result (λ copies. member.new.own ≡ member.old.own ++ copies ∷ []) }
+    ensures err { OnErr result (member.new.own ≡ member.old.own) }
+    ensures room { OnOk result (1 ≤ seat.new.room) }
+    ensures slips { seat.new.slips ≡ seat.old.slips }
+    ensures device { IsErrOf result Device → IsSome (number_by step) }
+    ensures faults { IfErr result (λ refusal. (refusal ≡ Device) ⊎ (refusal ≡ Memory) ⊎ IsRefusedAs (fault_at member.old.post.node step) refusal) }
+{
+    let ready = member.prepare(step, packet)?;
+    seat.make_room()?;
+    member.commit(ready)
 }

@@ -19,7 +19,7 @@ invariant_of-self g c =
     subst (λ (e : Entry). IsInRange g.L.Begins.cluster (node_at e.done.step)) (sym c.copies.view_is) c.requires.node in
     let sound : IsSound (entry_of one.entry) = subst (λ (e : Entry). IsSound e) (sym c.copies.view_is) c.requires.sound in
     let came : CameFrom g.L.Begins.packets (entries_of c.self.inside.noted.items) (entry_of one.entry) =
-    subst (λ (v : Registered). CameFrom g.L.Begins.packets v.entries (entry_of one.entry)) (sym c.self.view_is) (c.if-not-has_sent.ensures refl) in
+    subst (λ (v : Registered). CameFrom g.L.Begins.packets v.entries (entry_of one.entry)) (sym c.self.view_is) (c.if-not-has_sent.ensures.sent refl) in
     let more = register_more g.L.Begins.cluster g.L.Begins.packets c.self.inside.noted.items c.self.inside.carried.items c.self.inside.sent one
     c.self.invariant.0 within sound came refl in
     let count : c.in_ok-sent.sent ≡ c.self.inside.sent + count_in one =
