@@ -3,9 +3,13 @@
 
 mod action;
 mod cluster;
+mod opening;
 mod permitting;
+mod start_fault;
 mod taking;
 
 pub use action::Action;
 pub use cluster::Cluster;
 pub use journal_parts::{Begins, Done, Entry, Refusal, Seat, Slip, Unfinished};
+pub use opening::{open_nodes, opened_nodes_begin};
+pub use start_fault::StartFault;
