@@ -4,6 +4,8 @@
 #[cfg(test)]
 mod lives;
 #[cfg(test)]
+mod openings;
+#[cfg(test)]
 mod same;
 #[cfg(test)]
 mod tables;
