@@ -3,6 +3,8 @@ pub mod Joining
 pub mod Taken
 pub mod Listing
 pub mod OldStores
+pub mod Openings
+pub mod Recorded
 pub mod Likeness
 pub mod Growing
 pub mod Parts

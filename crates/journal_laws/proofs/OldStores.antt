@@ -1,10 +1,8 @@
--- A journal over stores that are not new goes on with the run that left them.
-use Rattle.std.proofs.Common.{◌≡◌, ℕ, zero, suc, ◌+◌, ◌<◌, ◌≤◌, Bool, true, false, List, [], ◌∷◌, ◌++◌, length, Option, Some, None, IfSome}
-use Rattle.std.proofs.Common.{refl, sym, ap, subst, ◌∙◌, inl, inr, arith, append_assoc, length-append, eqb-true}
+-- A run over stores that are not new goes on by the start of each node, to what the nodes keep then.
+use Rattle.std.proofs.Common.{◌≡◌, ℕ, zero, suc, ◌+◌, ◌<◌, ◌≤◌, Bool, true, false, List, [], ◌∷◌, ◌++◌, refl, sym, ap, subst, ◌∙◌, inl, inr, arith, eqb-true}
 use Rattle.std.specs.Prelude.{reverse, ◌==◌, if◌then◌else◌}
 use Rattle.std.proofs.lemmas.Bool.{cases_lt}
 use Rattle.mc_model.specs.synod.Lists.{In}
-use Rattle.mc_model.specs.synod.Packet.{Packet}
 use Rattle.mc_model.specs.node.Input.{Input, Restart}
 use Rattle.mc_model.specs.node.Setup.{Setup}
 use Rattle.mc_model.specs.cluster.Steps.{Cluster, setup_of}
@@ -14,45 +12,8 @@ use Rattle.node_model.specs.Kept.{Kept}
 use Rattle.node_model.specs.Outputs.{Stepped, leaves}
 use Rattle.node_model.specs.Stepped.{opened_new, restarted, stepped}
 use Rattle.node_laws.specs.Clusters.{KeptCluster, MayHappen, NodeInput, comes_to, kept_reached}
-use Rattle.world.specs.declared.step.Step.{Step}
-use Rattle.world.specs.declared.step.Step.TheVariants as steps
-use Rattle.journal_laws.specs.Journals.{CameAsSent, Done, Entry, HasItsNumber, IsJournal, IsOwnRun, WereSent, done_in, entries_at}
-use Rattle.journal_laws.specs.OldStores.{AreLeft, IsJournalOver, kept_opened, openings}
-
--- ---- packets are numbered on
-
-numbered_on : (old sent : List Packet) (number : ℕ) (packet : Packet) → HasItsNumber 0 sent number packet →
-    HasItsNumber (length old) (sent ++ old) number packet
-numbered_on old sent number packet is =
-    let place = is.1.number_is in
-    let more = length-append is.1.older old in (
-      is.0,
-      record {
-        newer = is.1.newer;
-        older = is.1.older ++ old;
-        split = ap (λ (ps : List Packet). ps ++ old) is.1.split ∙ append_assoc is.1.newer (packet ∷ is.1.older) old;
-        number_is = omega arith;
-      },
-    )
-
-came_on : (old sent : List Packet) (step : Step) (packet : Option Packet) → IfSome packet (CameAsSent 0 sent step) →
-    IfSome packet (CameAsSent (length old) (sent ++ old) step)
-came_on old sent step None was = record {}
-came_on old sent (steps.Deliver number node) (Some packet) was = numbered_on old sent number packet was
-came_on old sent (steps.Crash node number found) (Some packet) was = numbered_on old sent number packet was
-came_on old sent (steps.Request node account request) (Some packet) was = record {}
-came_on old sent (steps.Tick node moment up) (Some packet) was = record {}
-came_on old sent (steps.Grant node id) (Some packet) was = record {}
-came_on old sent (steps.Answered node slot outcome) (Some packet) was = record {}
-came_on old sent (steps.Restart node) (Some packet) was = record {}
-
-pub sent_on : (old sent : List Packet) (taken : List Done) → WereSent 0 sent taken → WereSent (length old) (sent ++ old) taken
-sent_on old sent [] were = record {}
-sent_on old sent (done ∷ later) were = (
-  came_on old sent done.step done.packet were.0,
-  subst (λ (ps : List Packet). WereSent (length old) ps later) (append_assoc (reverse done.sent) sent old)
-      (sent_on old (reverse done.sent ++ sent) later were.1),
-)
+use Rattle.journal_laws.specs.OldStores.{AreLeft, kept_opened, openings}
+use Rattle.journal_laws.specs.Parts.{LeadTo}
 
 -- ---- nodes that start anew
 
@@ -160,19 +121,11 @@ module _ (cluster : Cluster) (inputs : List NodeInput) (fresh : ℕ → Bool) (l
         starts_may count (omega (arith, few)),
       ))
 
-pub goes_over : (cluster : Cluster) (inputs : List NodeInput) (fresh : ℕ → Bool) (lost : ℕ → ℕ) (entries : List Entry) (ends : ℕ → Kept) →
-    IsJournalOver cluster inputs fresh lost entries ends →
-    IsJournal cluster (kept_reached cluster inputs).packets (openings fresh lost cluster.nodes ++ inputs) entries ends
-goes_over cluster inputs fresh lost entries ends is =
-    let old = (kept_reached cluster inputs).packets in
-    record {
-      few = is.left.few;
-      may = starts_may cluster inputs fresh lost is.left cluster.nodes (omega arith);
-      nodes = is.nodes;
-      own = λ node one.
-          subst (λ (k : Kept). IsOwnRun (setup_of cluster node) k (done_in (entries_at node entries)) (ends node))
-          (sym (opened cluster inputs fresh lost is.left cluster.nodes node one.0 one.1)) (is.own node one);
-      sent =
-          subst (λ (ps : List Packet). WereSent (length old) ps (done_in entries)) (sym (same_packets cluster inputs fresh lost is.left cluster.nodes))
-          (sent_on old [] (done_in entries) is.sent);
-    }
+-- these inputs lead the cluster to what its nodes keep as they have opened, and to no packet that has a number
+pub leads_over : (cluster : Cluster) (inputs : List NodeInput) (fresh : ℕ → Bool) (lost : ℕ → ℕ) → AreLeft cluster inputs fresh lost →
+    LeadTo cluster (kept_reached cluster inputs).packets (openings fresh lost cluster.nodes ++ inputs) (kept_opened cluster inputs fresh lost) []
+leads_over cluster inputs fresh lost left = record {
+  may = starts_may cluster inputs fresh lost left cluster.nodes (omega arith);
+  is_kept = λ node within. opened cluster inputs fresh lost left cluster.nodes node within.0 within.1;
+  are_sent = same_packets cluster inputs fresh lost left cluster.nodes;
+}

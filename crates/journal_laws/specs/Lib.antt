@@ -2,6 +2,7 @@ pub mod Journals
 pub mod Joining
 pub mod Taken
 pub mod OldStores
+pub mod Openings
 pub mod Likeness
 pub mod Parts
 pub mod Telling

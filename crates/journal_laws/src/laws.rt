@@ -2,12 +2,14 @@
 
 ghost use Rattle.std.specs.Prelude.{ℕ, ◌≤◌, Bool, [], ◌++◌, List, Ok, map, reverse};
 ghost use Rattle.mc_model.specs.synod.Packet.{Packet};
-ghost use Rattle.mc_model.specs.cluster.Steps.{Cluster};
+ghost use Rattle.mc_model.specs.cluster.Steps.{Cluster, setup_of};
 ghost use Rattle.mc_model.specs.node.Setup.{Setup};
 ghost use Rattle.node_model.specs.Kept.{Kept};
+ghost use Rattle.node_model.specs.Stepped.{opened_new};
 ghost use Rattle.node_laws.specs.Clusters.{MayHappen, NodeInput, kept_reached};
 ghost use Rattle.node_core.specs.Input.{Input};
 ghost use Rattle.node_core.specs.Keeping.{kept_of};
+ghost use Rattle.node_core.specs.Listing.{ListsRecorded};
 ghost use Rattle.node_core.specs.Nodes.{HasTaken, Standing};
 ghost use Rattle.node_core.specs.Outputs.{Outputs};
 ghost use Rattle.node_core.specs.Steps.{input_of};
@@ -21,7 +23,8 @@ ghost use Rattle.journal_laws.specs.Example.{IsQuiet, alone, before, worked};
 ghost use Rattle.journal_laws.specs.Joining.{IsCut, IsListed};
 ghost use Rattle.journal_laws.specs.Likeness.{AreAllAlike};
 ghost use Rattle.journal_laws.specs.Parts.{IsPart, LeadTo};
-ghost use Rattle.journal_laws.specs.OldStores.{IsJournalOver, openings};
+ghost use Rattle.journal_laws.specs.OldStores.{AreLeft, IsJournalOver, kept_opened, openings};
+ghost use Rattle.journal_laws.specs.Openings.{KeepsAsLeft, KeepsAsNew};
 ghost use Rattle.journal_laws.specs.Telling.{
   AcceptedAreKnown,
   AreChosen,
@@ -88,6 +91,26 @@ pub fn a_part_is_a_journal()
     ensures both { (cluster : Cluster) (kept middles ends : ℕ → Kept) (packets : List Packet) (first second : List Entry) →
         IsPart cluster kept packets first middles → IsPart cluster middles (reverse (packets_sent first) ++ packets) second ends →
         IsPart cluster kept packets (first ++ second) ends }
+{}
+
+/// Nodes that opened are led to what they keep then, and no packet has a number: by no input if all stores are new; and over stores that a run of the same
+/// nodes left by that run and a start anew of each node whose store is not new. So their journal begins there, as a part.
+pub fn nodes_that_open_begin_a_journal()
+    ensures new { (cluster : Cluster) → LeadTo cluster [] [] (λ node. opened_new (setup_of cluster node)) [] }
+    ensures over { (cluster : Cluster) (inputs : List NodeInput) (fresh : ℕ → Bool) (lost : ℕ → ℕ) → AreLeft cluster inputs fresh lost →
+        LeadTo cluster (kept_reached cluster inputs).packets (openings fresh lost cluster.nodes ++ inputs) (kept_opened cluster inputs fresh lost) [] }
+{}
+
+/// A node of the code that opened keeps just that, unless the disk returned what nobody wrote: over a new store what the model's node opens with, and over
+/// the records that a node left what that node keeps as it starts anew, if it listed each message of which it had a record.
+pub fn a_node_keeps_what_it_opened_over<S: StableStore>()
+    ensures new { KeepsAsNew S.stored }
+    ensures left { KeepsAsLeft S.stored }
+{}
+
+/// And wherever a run leads a node, it lists each message of which it has a record.
+pub fn a_run_lists_its_records()
+    ensures { (cluster : Cluster) (inputs : List NodeInput) (node : ℕ) → ListsRecorded ((kept_reached cluster inputs).kept node) }
 {}
 
 /// What is a node's own run stays it in a list of its own, of the same entries.

@@ -1,2 +1,3 @@
 pub mod Actions
 pub mod Refusing
+pub mod Openings

@@ -5,10 +5,14 @@ mod action;
 mod closing;
 mod cluster;
 mod opened;
+mod opening;
 mod permitting;
+mod start_fault;
 mod taking;
 
 pub use action::Action;
 pub use closing::{SeatsFault, SeatsOut};
 pub use cluster::Cluster;
 pub use journal_parts::{Begins, Done, Entry, Journal, Refusal, Seat, Slip, Unfinished};
+pub use opening::{open_nodes, opened_nodes_begin};
+pub use start_fault::StartFault;

@@ -4,6 +4,8 @@
 #[cfg(test)]
 mod lives;
 #[cfg(test)]
+mod openings;
+#[cfg(test)]
 mod parts;
 #[cfg(test)]
 mod same;

@@ -18,7 +18,7 @@ use std::sync::Wait;
 use std::sync::ledger::Blank;
 
 /// Hands in the submit_sm of a message.
-fn submitted<L: Begins, R: Wait + Abort>(
+pub fn submitted<L: Begins, R: Wait + Abort>(
     rt: &R,
     alloc: Global,
     cluster: &Cluster<ListStore, L>,

@@ -15,6 +15,9 @@ use std::sync::Wait;
 /// How many parts a ledger of slips has.
 pub const PARTS: u64 = 1_000_000;
 
+/// For how many seconds a message is valid that does not say it.
+pub const VALIDITY: u32 = 172800;
+
 /// The one node.
 pub fn first(rt: &impl Abort) -> NodeNo {
     lines_of_tests::node(1).expect(rt, "a node")

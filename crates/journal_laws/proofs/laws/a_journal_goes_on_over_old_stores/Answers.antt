@@ -1,4 +1,4 @@
-use Rattle.journal_laws.proofs.OldStores.{goes_over}
+use Rattle.journal_laws.proofs.Parts.{goes_over}
 use Rattle.journal_laws.proofs.laws.a_journal_goes_on_over_old_stores.Goals as goal
 
 pub returns : goal.returns

@@ -1,0 +1,173 @@
+//! Nodes that open over their stores, and a message that three of them take.
+
+ghost use Rattle.std.specs.Prelude.{◌≡◌, []};
+ghost use Rattle.mc_model.specs.cluster.Steps.{setup_of};
+ghost use Rattle.node_model.specs.Stepped.{opened_new};
+ghost use Rattle.stable_store.specs.Stored.{stored_in};
+ghost use Rattle.journal_laws.specs.Parts.{LeadTo};
+ghost use Rattle.node_threads.specs.Actions.{AllBegin};
+ghost use Rattle.node_threads.specs.Openings.{AreNew, cluster_of};
+
+use crate::lives::submitted;
+use crate::same::assert_same;
+use crate::tables::{PARTS, VALIDITY};
+use journal_laws::nodes_that_open_begin_a_journal;
+use mc_types::NodeNo;
+use node_core::{Life, Node};
+use node_threads::{
+    Action, Begins, Cluster, Refusal, Seat, StartFault, open_nodes, opened_nodes_begin,
+};
+use stable_store::{ListStore, StableStore, StoreFault};
+use std::alloc::Global;
+use std::marker::Brand;
+use std::process::Abort;
+use std::sync::Wait;
+use std::sync::ledger::Blank;
+
+/// So many new stores.
+fn new_stores(rt: &impl Abort, alloc: Global, count: u8) -> Vec<ListStore>
+    ensures { AreNew (λ list. stored_in list 0) result.items }
+{
+    let mut stores = Vec::new(alloc);
+    for _ in 0..count {
+        let put = stores.push(ListStore::make(alloc));
+        put.expect(rt, "memory");
+    }
+    stores
+}
+
+/// Three nodes over new stores: their journal begins with what those of the model open with.
+fn three(rt: &impl Abort, alloc: Global) -> (Vec<Node<ListStore>>, Vec<Life>)
+    ensures { AllBegin (cluster_of result.0.items 172800) (λ node. opened_new (setup_of (cluster_of result.0.items 172800) node)) result.0.items }
+{
+    let stores = new_stores(rt, alloc, 3);
+    opened_nodes_begin::<ListStore>();
+    match open_nodes(alloc, stores, VALIDITY) {
+        Ok(opened) => opened,
+        Err(_) => panic!(rt; "they open"),
+    }
+}
+
+fn numbered(rt: &impl Abort, number: u64) -> NodeNo {
+    lines_of_tests::node(number).expect(rt, "a node")
+}
+
+/// Whether there is a packet with this number, which comes to each of the three then.
+fn came<L: Begins, R: Wait + Abort>(
+    rt: &R,
+    cluster: &Cluster<ListStore, L>,
+    seat: &mut Seat<L>,
+    number: u64,
+) -> bool {
+    for node in 1..4 {
+        let node = numbered(rt, node);
+        match cluster.act(rt, seat, Action::Deliver { number, node }) {
+            Ok(slip) => drop(slip),
+            Err(refusal) => {
+                if refusal != Refusal::NoSuchPacket {
+                    panic!(rt; "no other refusal");
+                }
+                return false;
+            }
+        }
+    }
+    true
+}
+
+/// The number of the first packet that is missing, once node 1 was handed a message, and each packet came to each of the three.
+fn taken<L: Begins, R: Wait + Abort>(
+    rt: &R,
+    alloc: Global,
+    blank: Blank,
+    nodes: Vec<Node<ListStore>>,
+) -> u64
+    requires name { blank.name ≡ L.name }
+    requires parts { blank.parts ≡ L.parts }
+    requires all { blank.parts ≡ 1000000 }
+    requires packets { L.packets ≡ [] }
+    requires begin { AllBegin L.cluster L.kept nodes.items }
+    requires leads { LeadTo L.cluster [] [] L.kept L.packets }
+{
+    let cluster = Cluster::<ListStore, L>::start(alloc, blank, nodes).expect(rt, "a cluster");
+    let mut seat = cluster.seat(rt).expect(rt, "a seat");
+    submitted(rt, alloc, &cluster, &mut seat);
+    let mut number = 1u64;
+    for _ in 0..100u32 {
+        if !came(rt, &cluster, &mut seat, number) {
+            break;
+        }
+        number = number.checked_add(1).expect(rt, "a number");
+    }
+    number
+}
+
+/// The Prepare of a round of three nodes comes to each, which promises; at the second Promise node 1 proposes, and each node votes: eight packets.
+#[test]
+fn a_message_is_taken_at_three_nodes(rt: HostRuntime) {
+    let alloc = rt.alloc();
+    let (nodes, lives) = three(&rt, alloc);
+    drop(lives);
+    nodes_that_open_begin_a_journal();
+    let missing = taken::<Brand, HostRuntime>(&rt, alloc, Blank::new(PARTS), nodes);
+    assert_same(&rt, &missing, &9);
+}
+
+/// The lives stand in the order of their nodes.
+#[test]
+fn lives_stand_in_order(rt: HostRuntime) {
+    let (nodes, lives) = three(&rt, rt.alloc());
+    drop(nodes);
+    for place in 0..3u8 {
+        let life = lives.get(place as usize).expect(&rt, "a life");
+        assert_same(&rt, &life.node(), &numbered(&rt, place as u64 + 1));
+    }
+    assert_same(&rt, &lives.len(), &3);
+}
+
+fn refused(rt: &impl Abort, alloc: Global, count: u8) -> Option<StartFault> {
+    match open_nodes(alloc, new_stores(rt, alloc, count), VALIDITY) {
+        Ok(opened) => {
+            drop(opened);
+            None
+        }
+        Err(fault) => Some(fault),
+    }
+}
+
+/// One to nine nodes open.
+#[test]
+fn as_many_nodes_open_as_may(rt: HostRuntime) {
+    let alloc = rt.alloc();
+    assert_same(&rt, &refused(&rt, alloc, 0), &Some(StartFault::Nodes));
+    assert_same(&rt, &refused(&rt, alloc, 1), &None);
+    assert_same(&rt, &refused(&rt, alloc, 9), &None);
+    assert_same(&rt, &refused(&rt, alloc, 10), &Some(StartFault::Nodes));
+}
+
+/// A store of which all incarnations were used.
+fn spent(rt: &impl Abort, alloc: Global) -> ListStore {
+    let mut store = ListStore::make(alloc);
+    for _ in 0..9999u32 {
+        let next = store.next_incarnation();
+        assert!(rt; next.is_ok());
+    }
+    store
+}
+
+/// Of two stores that are spent the first is told, and one before it that is not spent opens.
+#[test]
+fn the_first_store_that_fails_is_told(rt: HostRuntime) {
+    let alloc = rt.alloc();
+    let mut stores = new_stores(&rt, alloc, 1);
+    stores.push(spent(&rt, alloc)).expect(&rt, "memory");
+    stores.push(spent(&rt, alloc)).expect(&rt, "memory");
+    let told = match open_nodes(alloc, stores, VALIDITY) {
+        Ok(opened) => {
+            drop(opened);
+            None
+        }
+        Err(fault) => Some(fault),
+    };
+    let wanted = StartFault::Open(numbered(&rt, 2), StoreFault::Incarnations);
+    assert_same(&rt, &told, &Some(wanted));
+}
