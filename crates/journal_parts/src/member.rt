@@ -1,12 +1,14 @@
 //! A node and its own steps, under its lock.
 
 ghost use Rattle.std.specs.Prelude.{◌≡◌, ◌≤◌, ◌∷◌, ◌++◌, ◌||◌, [], None, IfOk, OnErr, OnOk, false, true};
-ghost use Rattle.node_core.specs.Nodes.{IsLifeOf};
+ghost use Rattle.node_core.specs.Input.TheVariants as inputs;
+ghost use Rattle.node_core.specs.Nodes.{IsLifeOf, fault_in};
 ghost use Rattle.node_core.specs.Permits.{IsAnswered, IsGrant, is_life_of};
 ghost use Rattle.world.specs.declared.step.Step.TheVariants as steps;
 ghost use Rattle.journal_laws.specs.Journals.{IsInRange};
 ghost use Rattle.world.specs.Runs.{node_at};
 ghost use Rattle.journal_parts.specs.Entries.{IsAnew, done_of};
+ghost use Rattle.journal_parts.specs.Granting.{IsLeastAbove};
 ghost use Rattle.journal_parts.specs.Members.{CanBeTaken, ComesWith, IsBeginning, packet_halted};
 
 use crate::anew::Anew;
@@ -16,7 +18,7 @@ use crate::entry::Entry;
 use crate::post::Post;
 use crate::ready::Ready;
 use crate::refusal::Refusal;
-use mc_types::NodeNo;
+use mc_types::{MsgId, NodeNo};
 use node_core::{Life, Node, Permit};
 use stable_store::StableStore;
 use std::alloc::{AllocError, Global};
@@ -191,6 +193,17 @@ impl<S: StableStore, L: Begins> Member<S, L> {
         ensures { result ≡ is_life_of self.now.post.node life.now }
     {
         self.post.node.is_life(life)
+    }
+
+    /// The lowest id above this one, or of all ids, of the messages whose attempt it would grant now; none if there is none, and if it takes no step. It takes
+    /// no memory.
+    pub fn grantable_after(&self, after: Option<MsgId>) -> Option<MsgId>
+        ensures { IsLeastAbove after (λ id. (self.now.post.astray ≡ false) × (fault_in self.now.post.node (inputs.Grant id) ≡ None)) result }
+    {
+        if self.post.astray {
+            return None;
+        }
+        self.post.node.grantable_after(after)
     }
 
     /// What a proof takes of it: its node is one of the cluster. The call does nothing.

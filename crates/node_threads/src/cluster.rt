@@ -182,7 +182,7 @@ impl<S: StableStore, L: Begins> Cluster<S, L> {
     }
 
     /// The node with this number, under its lock.
-    fn member(&self, node: NodeNo) -> Result<&Mutex<Member<S, L>>, Refusal> {
+    pub(crate) fn member(&self, node: NodeNo) -> Result<&Mutex<Member<S, L>>, Refusal> {
         self.members
             .get(node.number() as usize - 1)
             .ok_or(Refusal::NoSuchNode)

@@ -3,6 +3,7 @@
 
 mod action;
 mod cluster;
+mod hinting;
 mod permitting;
 mod taking;
 
