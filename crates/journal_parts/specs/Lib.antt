@@ -1,3 +1,4 @@
+pub use Rattle.node_kept.specs.Granting
 pub mod Refusals
 pub mod Faults
 pub mod Entries

@@ -1,7 +1,8 @@
 //! A node and its own steps, under its lock.
 
 ghost use Rattle.std.specs.Prelude.{◌≡◌, ◌≤◌, ◌∷◌, ◌++◌, ◌||◌, [], None, IfOk, OnErr, OnOk, false, true, map, ◌<◌, ◌⊎◌, ◌↔◌, IfErr, IsErrOf, IsSome};
-ghost use Rattle.node_core.specs.Nodes.{IsLifeOf};
+ghost use Rattle.node_core.specs.Nodes.{IsLifeOf, fault_in};
+ghost use Rattle.node_core.specs.Input.TheVariants as inputs;
 ghost use Rattle.node_core.specs.Permits.{IsAnswered, IsGrant, is_life_of};
 ghost use Rattle.world.specs.declared.step.Step.TheVariants as steps;
 ghost use Rattle.journal_laws.specs.Journals.{IsInRange};
@@ -13,6 +14,7 @@ ghost use Rattle.journal_parts.specs.Faults.{fault_at};
 ghost use Rattle.journal_parts.specs.Refusals.{IsRefusedAs};
 ghost use Rattle.journal_parts.specs.declared.refusal.Refusal.TheVariants.{Broken, Damaged, Device, Memory, Spent};
 ghost use Rattle.stable_store.specs.Stored.{HasFailed};
+ghost use Rattle.journal_parts.specs.Granting.{IsLeastAbove};
 
 use crate::anew::Anew;
 use crate::begins::Begins;
@@ -21,7 +23,7 @@ use crate::entry::Entry;
 use crate::post::Post;
 use crate::ready::Ready;
 use crate::refusal::Refusal;
-use mc_types::NodeNo;
+use mc_types::{MsgId, NodeNo};
 use node_core::{Life, Node, Permit};
 use stable_store::StableStore;
 use std::alloc::{AllocError, Global};
@@ -205,6 +207,17 @@ impl<S: StableStore, L: Begins> Member<S, L> {
         ensures { result ≡ is_life_of self.now.post.node life.now }
     {
         self.post.node.is_life(life)
+    }
+
+    /// The lowest id above this one, or of all ids, of the messages whose attempt it would grant now; none if there is none, and if it takes no step. It takes
+    /// no memory.
+    pub fn grantable_after(&self, after: Option<MsgId>) -> Option<MsgId>
+        ensures { IsLeastAbove after (λ id. (self.now.post.astray ≡ false) × (fault_in self.now.post.node (inputs.Grant id) ≡ None)) result }
+    {
+        if self.post.astray {
+            return None;
+        }
+        self.post.node.grantable_after(after)
     }
 
     /// What a proof takes of it: its node is one of the cluster. The call does nothing.

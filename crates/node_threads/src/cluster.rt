@@ -222,7 +222,7 @@ impl<S: StableStore, L: Begins> Cluster<S, L> {
     }
 
     /// The node with this number, under its lock. NoSuchNode exactly if there is none.
-    fn member(&self, node: NodeNo) -> Result<&Mutex<Member<S, L>>, Refusal>
+    pub(crate) fn member(&self, node: NodeNo) -> Result<&Mutex<Member<S, L>>, Refusal>
         ensures { IfErr result (λ refusal. refusal ≡ NoSuchNode) }
     {
         self.locks

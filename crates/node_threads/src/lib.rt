@@ -4,6 +4,7 @@
 mod action;
 mod closing;
 mod cluster;
+mod hinting;
 mod opened;
 mod opening;
 mod permitting;

@@ -2,6 +2,10 @@
 #![tactic(auto)]
 
 #[cfg(test)]
+mod deliveries;
+#[cfg(test)]
+mod gates;
+#[cfg(test)]
 mod lives;
 #[cfg(test)]
 mod openings;

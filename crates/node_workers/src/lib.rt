@@ -1,0 +1,11 @@
+//! Workers, which deliver the attempts of messages over a cluster of nodes in threads.
+#![tactic(auto)]
+
+mod attempting;
+mod carrying;
+mod hinting;
+mod home;
+mod working;
+
+pub use hinting::hint;
+pub use working::worker;
