@@ -34,6 +34,7 @@ fn opened_now(rt: &impl Abort, alloc: Global) -> Opened
     ensures parts { result.blank.parts ≡ 1000000 }
     ensures node { IsNode result.node.kept.setup.node }
     ensures setup { IsSetup result.node.kept.setup }
+    ensures alone { result.node.kept.setup.nodes ≡ 1 }
     ensures finished { result.node.unfinished ≡ None }
 {
     let (node, life) = opened(rt, alloc);
@@ -104,6 +105,7 @@ fn worked<L: Begins, R: Wait + Abort>(
     requires all { opened.blank.parts ≡ 1000000 }
     requires packets { L.packets ≡ [] }
     requires begins { IsBeginning L.cluster L.kept opened.node }
+    requires alone { L.cluster.nodes ≡ 1 }
 {
     let Opened { blank, node, life } = opened;
     let mut nodes = Vec::new(alloc);

@@ -87,6 +87,7 @@ fn lived<L: Begins, R: Wait + Abort>(
     requires all { blank.parts ≡ 1000000 }
     requires packets { L.packets ≡ [] }
     requires begins { IsBeginning L.cluster L.kept node }
+    requires alone { L.cluster.nodes ≡ 1 }
 {
     let mut nodes = Vec::new(alloc);
     nodes.push(node).expect(rt, "memory");

@@ -1,6 +1,6 @@
 //! Nodes that open over their stores, and a message that three of them take.
 
-ghost use Rattle.std.specs.Prelude.{◌≡◌, []};
+ghost use Rattle.std.specs.Prelude.{◌≡◌, [], length};
 ghost use Rattle.mc_model.specs.cluster.Steps.{setup_of};
 ghost use Rattle.node_model.specs.Stepped.{opened_new};
 ghost use Rattle.stable_store.specs.Stored.{stored_in};
@@ -86,6 +86,7 @@ fn taken<L: Begins, R: Wait + Abort>(
     requires all { blank.parts ≡ 1000000 }
     requires packets { L.packets ≡ [] }
     requires begin { AllBegin L.cluster L.kept nodes.items }
+    requires count { length nodes.items ≡ L.cluster.nodes }
     requires leads { LeadTo L.cluster [] [] L.kept L.packets }
 {
     let cluster = Cluster::<ListStore, L>::start(alloc, blank, nodes).expect(rt, "a cluster");

@@ -27,6 +27,7 @@ pub fn first(rt: &impl Abort) -> NodeNo {
 pub fn opened(rt: &impl Abort, alloc: Global) -> (Node<ListStore>, Life)
     ensures node { IsNode result.0.kept.setup.node }
     ensures setup { IsSetup result.0.kept.setup }
+    ensures alone { result.0.kept.setup.nodes ≡ 1 }
     ensures finished { result.0.unfinished ≡ None }
 {
     let setup = Setup::make(first(rt), 1, 1, 172800).expect(rt, "a setup");
