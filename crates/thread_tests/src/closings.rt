@@ -84,8 +84,12 @@ fn a_cluster_closes_with_all_seats_that_have_slips(rt: HostRuntime) {
     let alloc = rt.alloc();
     let (node, life) = opened(&rt, alloc);
     drop(life);
-    let (fault, counts) =
-        closed_with_the_other::<Brand, HostRuntime>(&rt, alloc, Blank::new(PARTS), node);
+    let (fault, counts) = closed_with_the_other::<Brand, HostRuntime>(
+        &rt,
+        alloc,
+        Blank::new(PARTS),
+        node,
+    );
     assert_same(&rt, &fault, &SeatsFault::Missing);
     assert_same(&rt, &counts, &[5, 4]);
 }

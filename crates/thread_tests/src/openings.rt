@@ -36,11 +36,15 @@ fn new_stores(rt: &impl Abort, alloc: Global, count: u8) -> Vec<ListStore>
     stores
 }
 
-/// Three nodes over new stores: their journal begins with what those of the model open with.
-fn three(rt: &impl Abort, alloc: Global) -> (Vec<Node<ListStore>>, Vec<Life>)
+/// So many nodes over new stores: their journal begins with what those of the model open with.
+pub fn over_new_stores(
+    rt: &impl Abort,
+    alloc: Global,
+    count: u8,
+) -> (Vec<Node<ListStore>>, Vec<Life>)
     ensures { AllBegin (cluster_of result.0.items 172800) (λ node. opened_new (setup_of (cluster_of result.0.items 172800) node)) result.0.items }
 {
-    let stores = new_stores(rt, alloc, 3);
+    let stores = new_stores(rt, alloc, count);
     opened_nodes_begin::<ListStore>();
     match open_nodes(alloc, stores, VALIDITY) {
         Ok(opened) => opened,
@@ -106,7 +110,7 @@ fn taken<L: Begins, R: Wait + Abort>(
 #[test]
 fn a_message_is_taken_at_three_nodes(rt: HostRuntime) {
     let alloc = rt.alloc();
-    let (nodes, lives) = three(&rt, alloc);
+    let (nodes, lives) = over_new_stores(&rt, alloc, 3);
     drop(lives);
     nodes_that_open_begin_a_journal();
     let missing = taken::<Brand, HostRuntime>(&rt, alloc, Blank::new(PARTS), nodes);
@@ -116,7 +120,7 @@ fn a_message_is_taken_at_three_nodes(rt: HostRuntime) {
 /// The lives stand in the order of their nodes.
 #[test]
 fn lives_stand_in_order(rt: HostRuntime) {
-    let (nodes, lives) = three(&rt, rt.alloc());
+    let (nodes, lives) = over_new_stores(&rt, rt.alloc(), 3);
     drop(nodes);
     for place in 0..3u8 {
         let life = lives.get(place as usize).expect(&rt, "a life");

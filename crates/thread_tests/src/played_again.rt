@@ -1,19 +1,18 @@
 //! A journal of steps by lot, played again by a world.
 
 ghost use Rattle.std.specs.Prelude.{◌≡◌, [], length};
-ghost use Rattle.mc_model.specs.cluster.Steps.{setup_of};
-ghost use Rattle.node_model.specs.Stepped.{opened_new};
-ghost use Rattle.stable_store.specs.Stored.{stored_in};
 ghost use Rattle.node_threads.specs.Actions.{AllBegin};
-ghost use Rattle.node_threads.specs.Openings.{AreNew, cluster_of};
 
 use crate::hands::Hands;
 use crate::lots::Lots;
+use crate::openings::over_new_stores;
 use crate::replays::{same, steps_of};
+use crate::same::assert_same;
+use crate::tables::{PARTS, VALIDITY};
 use mc_types::Moment;
 use node_core::{Life, Node};
-use node_threads::{Begins, Cluster, Journal, open_nodes, opened_nodes_begin};
-use stable_store::{ListStore, StableStore};
+use node_threads::{Begins, Cluster, Journal};
+use stable_store::ListStore;
 use std::alloc::Global;
 use std::marker::Brand;
 use std::process::Abort;
@@ -22,32 +21,8 @@ use std::sync::ledger::Blank;
 use world::World;
 use world_runs::run;
 
-/// For how many seconds a message is valid that does not say it.
-const VALIDITY: u32 = 172800;
-
-/// So many new stores.
-fn new_stores(rt: &impl Abort, alloc: Global, count: u8) -> Vec<ListStore>
-    ensures { AreNew (λ list. stored_in list 0) result.items }
-{
-    let mut stores = Vec::new(alloc);
-    for _ in 0..count {
-        let put = stores.push(ListStore::make(alloc));
-        put.expect(rt, "memory");
-    }
-    stores
-}
-
-/// So many nodes over new stores.
-fn opened(rt: &impl Abort, alloc: Global, count: u8) -> (Vec<Node<ListStore>>, Vec<Life>)
-    ensures { AllBegin (cluster_of result.0.items 172800) (λ node. opened_new (setup_of (cluster_of result.0.items 172800) node)) result.0.items }
-{
-    let stores = new_stores(rt, alloc, count);
-    opened_nodes_begin::<ListStore>();
-    match open_nodes(alloc, stores, VALIDITY) {
-        Ok(opened) => opened,
-        Err(_) => panic!(rt; "they open"),
-    }
-}
+/// How many steps are handed in by lot.
+const STEPS: u32 = 40_000;
 
 /// What hands in steps at these nodes.
 fn hands<L: Begins, R: Wait + Abort>(
@@ -97,13 +72,10 @@ fn journal_of<L: Begins, R: Wait + Abort>(
     }
 }
 
-/// How many steps are handed in by lot.
-const STEPS: u32 = 20_000;
-
 /// Each entry gave out what a world gives by its steps.
 fn is_run<R: Wait + Abort>(rt: &R, alloc: Global, count: u8) -> (usize, usize) {
-    let (nodes, lives) = opened(rt, alloc, count);
-    let journal = journal_of::<Brand, R>(rt, alloc, Blank::new(1_000_000), nodes, lives);
+    let (nodes, lives) = over_new_stores(rt, alloc, count);
+    let journal = journal_of::<Brand, R>(rt, alloc, Blank::new(PARTS), nodes, lives);
     let mut world = World::start(alloc, count, 1, VALIDITY).expect(rt, "a world");
     let steps = steps_of(rt, alloc, &journal);
     let trace = run(alloc, &mut world, steps).expect(rt, "memory");
@@ -112,7 +84,7 @@ fn is_run<R: Wait + Abort>(rt: &R, alloc: Global, count: u8) -> (usize, usize) {
 
 #[test]
 fn a_journal_is_played_again_by_a_world(rt: HostRuntime) {
-    let (same, all) = is_run(&rt, rt.alloc(), 3);
-    assert!(rt; all > 10_000);
-    assert_eq!(rt; same, all);
+    let (same, all) = is_run(&rt, rt.alloc(), 9);
+    assert!(rt; all > 20_000);
+    assert_same(&rt, &same, &all);
 }

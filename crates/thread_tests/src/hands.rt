@@ -42,7 +42,7 @@ impl<L: Begins> Hands<L> {
 
     /// A node by lot.
     fn node(&mut self, rt: &impl Abort) -> NodeNo {
-        let place = self.lots.below(self.lives.len() as u32) as usize;
+        let place = self.lots.below(self.lives.len() as u64) as usize;
         self.lives.get(place).expect(rt, "a life").node()
     }
 
@@ -82,7 +82,7 @@ impl<L: Begins> Hands<L> {
         let next = last.checked_add(1).expect(rt, "a number");
         let again = self.lots.below(40) == 0;
         let number = if again {
-            u64::from(self.lots.below(last as u32)) + 1
+            self.lots.below(last).checked_add(1).expect(rt, "a number")
         } else {
             next
         };
@@ -108,7 +108,7 @@ impl<L: Begins> Hands<L> {
         } else {
             Outcome::Delivered
         };
-        let place = self.lots.below(self.lives.len() as u32) as usize;
+        let place = self.lots.below(self.lives.len() as u64) as usize;
         let life = self.lives.get(place).expect(rt, "a life");
         let found = cluster.grantable_after(rt, life.node(), None);
         let Some(id) = found.expect(rt, "a node") else {
@@ -124,7 +124,7 @@ impl<L: Begins> Hands<L> {
     }
 
     fn start_anew<R: Wait + Abort>(&mut self, rt: &R, cluster: &Cluster<ListStore, L>) {
-        let place = self.lots.below(self.lives.len() as u32) as usize;
+        let place = self.lots.below(self.lives.len() as u64) as usize;
         if place >= self.lives.len() {
             return;
         }

@@ -1,13 +1,13 @@
 //! The steps of a journal, and what a world gives by them.
 
+use fate_chain::Chain;
 use node_core::Outputs;
 use node_threads::{Entry, Journal};
 use stable_store::ListStore;
 use std::alloc::Global;
 use std::process::Abort;
-use world::{Given, Step, WorldFault};
 use waiting_requests::Reply;
-use fate_chain::Chain;
+use world::{Given, Step, WorldFault};
 
 /// The steps for an entry: one of a start anew that names an unfinished save stands for the stop and the start.
 fn add_steps(rt: &impl Abort, steps: &mut Vec<Step>, entry: &Entry) {

@@ -18,8 +18,8 @@ impl Lots {
     }
 
     /// A number below this one; 0 if it is 0.
-    pub fn below(&mut self, count: u32) -> u32 {
-        let word = self.words.next_word();
+    pub fn below(&mut self, count: u64) -> u64 {
+        let word = u64::from(self.words.next_word());
         if count == 0 { 0 } else { word % count }
     }
 }

@@ -1,5 +1,5 @@
 use Rattle.std.proofs.Common.{refl}
-use Rattle.thread_tests.proofs.openings.three.Goals as goal
+use Rattle.thread_tests.proofs.openings.over_new_stores.Goals as goal
 
 pub returns : goal.returns
 returns g c =
