@@ -10,6 +10,8 @@ mod gates;
 #[cfg(test)]
 mod lives;
 #[cfg(test)]
+mod next_parts;
+#[cfg(test)]
 mod openings;
 #[cfg(test)]
 mod parts;
