@@ -6,4 +6,5 @@ pub mod Readies
 pub mod Members
 pub mod Reopening
 pub mod Closing
+pub mod GoingOn
 pub mod Marking

@@ -18,7 +18,7 @@ abbrev pub AreSound : List Noted → Type 0
 AreSound noted = (entry : Entry) → In entry (entries_of noted) → IsSound entry
 
 -- how many packets have numbers behind these entries
-sent_count : (before : ℕ) (noted : List Noted) (sent : ℕ) → AreNumbered before noted sent → AreSound noted →
+pub sent_count : (before : ℕ) (noted : List Noted) (sent : ℕ) → AreNumbered before noted sent → AreSound noted →
     sent ≡ before + length (packets_sent (entries_of noted))
 sent_count before [] sent are sound = omega (arith, are)
 sent_count before (first ∷ later) sent are sound =

@@ -7,3 +7,4 @@ pub mod Marks
 pub mod Registers
 pub mod Members
 pub mod Closing
+pub mod GoingOn

@@ -19,10 +19,10 @@ use std::marker::Model;
 /// of earlier parts that may still come, how many packets have numbers, and the nodes, node 1 first.
 #[derive(Drop)]
 pub struct Journal<S: StableStore> {
-    noted: Vec<Noted>,
-    carried: Vec<Carried>,
+    pub(crate) noted: Vec<Noted>,
+    pub(crate) carried: Vec<Carried>,
     sent: u64,
-    posts: Vec<Post<S>>,
+    pub(crate) posts: Vec<Post<S>>,
 }
 
 impl<S: StableStore> Model for Journal<S> {

@@ -75,6 +75,19 @@ impl<S: StableStore, L: Begins> Member<S, L> {
         }
     }
 
+    /// A node as it is at its post, where another part of the journal begins: it has no entry of it yet. It takes no memory.
+    pub fn go_on(alloc: Global, post: Post<S>) -> Member<S, L>
+        requires { IsMember S.stored L.cluster L.kept (posted post) [] }
+        ensures post { result.post ≡ posted post }
+        ensures own { result.own ≡ [] }
+    {
+        Member {
+            post,
+            own: Vec::new(alloc),
+            part: PhantomData,
+        }
+    }
+
     /// Prepares a step, with the packet that comes by it, if one does: it changes nothing but the room for entries. Broken exactly if a save failed before;
     /// then Grant and NotGranted exactly as `Node::prepare_step` says; else an `Err` is want of memory.
     pub fn prepare(&mut self, step: Step, packet: Option<Packet>) -> Result<Ready, Refusal>

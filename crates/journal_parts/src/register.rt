@@ -5,11 +5,13 @@ ghost use Rattle.std.specs.Prelude.{IsErrOf, IfOk, IfSome, IfNone, IsSome, OnErr
 ghost use Rattle.std.specs.Arc.{arc_value};
 ghost use Rattle.std.specs.Option.{option_copied};
 ghost use Rattle.synod_acceptor.specs.Packets.{packet_of};
+ghost use Rattle.mc_model.specs.synod.Lists.{In};
 ghost use Rattle.world.specs.Runs.{node_at};
 ghost use Rattle.journal_laws.specs.Journals.{HasItsNumber, IsInRange};
 ghost use Rattle.journal_parts.specs.Entries.{IsSound, entry_of, number_by, number_in};
 ghost use Rattle.journal_parts.specs.Members.{CanBeTaken, IsAct};
-ghost use Rattle.journal_parts.specs.Registers.{AsksInVain, CameFrom, HasEntered, HasPacket, IsAskedFor, IsUnsent};
+ghost use Rattle.journal_parts.specs.Registers.{AsksInVain, CameFrom, HasEntered, HasPacket, IsAskedFor, IsCarried, IsUnsent};
+ghost use Rattle.journal_parts.specs.declared.carried.Carried.{Carried as Again};
 ghost use Rattle.journal_parts.specs.declared.refusal.Refusal.TheVariants.{Broken, Full, Memory, NoSuchPacket};
 
 use crate::begins::Begins;
@@ -85,14 +87,33 @@ impl<L: Begins> Register<L> {
         ensures room { IfOk result (λ register. 200000 ≤ register.room) }
         ensures seats { IfOk result (λ register. register.seats ≡ 1000000) }
     {
+        Register::go_on(alloc, blank, 0, Vec::new(alloc))
+    }
+
+    /// A journal with no entry yet, and room for them all, behind so many packets that have numbers, of which these may still come. An `Err` is want of memory.
+    pub fn go_on(
+        alloc: Global,
+        blank: Blank,
+        sent: u64,
+        carried: Vec<Carried>,
+    ) -> Result<Register<L>, AllocError>
+        requires name { blank.name ≡ L.name }
+        requires parts { (blank.parts ≡ L.parts) × (blank.parts ≡ 1000000) }
+        requires sent { length L.packets ≡ sent }
+        requires carried { (one : Again) → In one carried.items → IsCarried L.packets one }
+        ensures entries { IfOk result (λ register. register.entries ≡ []) }
+        ensures claims { IfOk result (λ register. register.claims ≡ 0) }
+        ensures room { IfOk result (λ register. 200000 ≤ register.room) }
+        ensures seats { IfOk result (λ register. register.seats ≡ 1000000) }
+    {
         let noted = Vec::with_capacity(alloc, MOST_ENTRIES)?;
         let marks = Marks::make(alloc, MOST_ENTRIES)?;
         let (book, seats) = blank.open::<L>();
         Ok(Register {
             noted,
             claims: 0,
-            carried: Vec::new(alloc),
-            sent: 0,
+            carried,
+            sent,
             book,
             seats,
             seats_left: MOST_SEATS,

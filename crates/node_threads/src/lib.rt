@@ -4,6 +4,7 @@
 mod action;
 mod closing;
 mod cluster;
+mod going_on;
 mod hinting;
 mod opened;
 mod opening;
@@ -14,6 +15,8 @@ mod taking;
 pub use action::Action;
 pub use closing::{SeatsFault, SeatsOut};
 pub use cluster::Cluster;
-pub use journal_parts::{Begins, Done, Entry, Journal, Refusal, Seat, Slip, Unfinished};
+pub use journal_parts::{
+    Begins, Done, Entry, Journal, Refusal, Seat, Slip, Unfinished, closed_journals_go_on,
+};
 pub use opening::{open_nodes, opened_nodes_begin};
 pub use start_fault::StartFault;

@@ -14,6 +14,8 @@ mod lives;
 #[cfg(test)]
 mod lots;
 #[cfg(test)]
+mod next_parts;
+#[cfg(test)]
 mod openings;
 #[cfg(test)]
 mod parts;

@@ -33,7 +33,7 @@ pub fn submitted<L: Begins, R: Wait + Abort>(
 }
 
 /// Hands in a tick at which sme1 is up.
-fn attempted<L: Begins, R: Wait + Abort>(
+pub fn attempted<L: Begins, R: Wait + Abort>(
     rt: &R,
     alloc: Global,
     cluster: &Cluster<ListStore, L>,
@@ -51,7 +51,7 @@ fn attempted<L: Begins, R: Wait + Abort>(
 }
 
 /// Has the attempt granted, and delivered.
-fn delivered<L: Begins, R: Wait + Abort>(
+pub fn delivered<L: Begins, R: Wait + Abort>(
     rt: &R,
     cluster: &Cluster<ListStore, L>,
     seat: &mut Seat<L>,

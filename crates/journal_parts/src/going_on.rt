@@ -1,0 +1,114 @@
+//! A journal that goes on with another part of the same run.
+
+ghost use Rattle.std.specs.Prelude.{◌≡◌, ◌↔◌, ◌≤◌, ℕ, List, IfOk, IsTrue, OnOk, length, map};
+ghost use Rattle.mc_model.specs.cluster.Steps.{Cluster};
+ghost use Rattle.mc_model.specs.synod.Lists.{In};
+ghost use Rattle.mc_model.specs.synod.Packet.{Packet as Numbered};
+ghost use Rattle.journal_parts.specs.GoingOn.{AreAdded, AreSound, BothAreOne, ClosedOnesGoOn, IsAgain, IsOf, IsOfAny, numbered_behind};
+ghost use Rattle.journal_parts.specs.Members.{posted};
+ghost use Rattle.journal_parts.specs.Registers.{IsCarried, IsRegister};
+ghost use Rattle.journal_parts.specs.declared.carried.Carried.{Carried as Again};
+
+use crate::carried::Carried;
+use crate::journal::Journal;
+use crate::noted::Noted;
+use crate::post::Post;
+use stable_store::StableStore;
+use std::alloc::{AllocError, Global};
+
+impl<S: StableStore> Journal<S> {
+    /// How many nodes there are.
+    pub fn nodes(&self) -> usize
+        ensures { result ≡ length self.now.posts }
+    {
+        self.posts.len()
+    }
+
+    /// Whether no node is astray.
+    pub fn is_sound(&self) -> bool
+        ensures { IsTrue result ↔ AreSound self.now.posts }
+    {
+        are_sound(self.posts.as_slice())
+    }
+
+    /// The packets with this number or a higher one that may still come in another part, under their numbers: those that were carried before, and those of
+    /// the entries. An `Err` is want of memory.
+    pub fn carried_from(&self, alloc: Global, from: u64) -> Result<Vec<Carried>, AllocError>
+        ensures each { IfOk result (λ carried. (cluster : Cluster) (packets : List Numbered) →
+            IsRegister cluster packets self.now.noted self.now.carried self.now.sent →
+            (one : Again) → In one carried.items → IsCarried (numbered_behind self.now packets) one) }
+        ensures from { IfOk result (λ carried. (one : Again) → In one carried.items → from ≤ one.number) }
+    {
+        let mut into = Vec::new(alloc);
+        carry_again(self.carried.as_slice(), from, &mut into)?;
+        carry_sent(self.noted.as_slice(), from, &mut into)?;
+        Ok(into)
+    }
+
+    /// The nodes as they are, node 1 first. It takes no memory.
+    pub fn into_posts(self) -> Vec<Post<S>>
+        ensures { map posted result.items ≡ self.posts }
+    {
+        self.posts
+    }
+}
+
+/// What a proof takes of a journal that was closed: it goes on if no node is astray, and both parts are one then. The call does nothing.
+pub fn closed_journals_go_on<S: StableStore>()
+    ensures go { ClosedOnesGoOn S.stored }
+    ensures one { BothAreOne S.stored }
+{}
+
+/// Whether none of them is astray.
+fn are_sound<S: StableStore>(posts: &[Post<S>]) -> bool
+    ensures { IsTrue result ↔ AreSound (map posted posts.now) }
+{
+    for post in posts {
+        if post.astray {
+            return false;
+        }
+    }
+    true
+}
+
+/// Adds those of earlier parts with this number or a higher one. An `Err` is want of memory.
+fn carry_again(carried: &[Carried], from: u64, into: &mut Vec<Carried>) -> Result<(), AllocError>
+    ensures { OnOk result (AreAdded into.old.items (IsAgain from carried.now) into.new.items) }
+{
+    for one in carried {
+        if one.number >= from {
+            into.push(Carried {
+                number: one.number,
+                packet: one.packet.copy()?,
+            })?;
+        }
+    }
+    Ok(())
+}
+
+/// Adds those of the entries. An `Err` is want of memory.
+fn carry_sent(noted: &[Noted], from: u64, into: &mut Vec<Carried>) -> Result<(), AllocError>
+    ensures { OnOk result (AreAdded into.old.items (IsOfAny from noted.now) into.new.items) }
+{
+    for entry in noted {
+        carry_own(entry, from, into)?;
+    }
+    Ok(())
+}
+
+/// Adds those of an entry. An `Err` is want of memory.
+fn carry_own(noted: &Noted, from: u64, into: &mut Vec<Carried>) -> Result<(), AllocError>
+    ensures { OnOk result (AreAdded into.old.items (IsOf from noted.now) into.new.items) }
+{
+    let packets = noted.entry.done.outputs.packets.as_slice();
+    for (place, packet) in packets.iter().enumerate() {
+        let Some(number) = noted.before.checked_add(place as u64 + 1) else {
+            break;
+        };
+        if number >= from {
+            let packet = packet.copy()?;
+            into.push(Carried { number, packet })?;
+        }
+    }
+    Ok(())
+}

@@ -1,0 +1,17 @@
+use Rattle.std.specs.Prelude.{[]}
+use Rattle.node_core.specs.Keeping.{kept_of}
+use Rattle.thread_tests.proofs.next_parts.gone_on.Given as goal
+
+abbrev pub ghosts-both_parts-L-Begins : goal.ghosts-both_parts-L-Begins
+ghosts-both_parts-L-Begins g a = record {
+  cluster = record {
+    nodes = a.first.node.kept.setup.nodes;
+    serials = λ node. a.first.node.kept.setup.first_serial;
+    validities = λ node. a.first.node.kept.setup.default_validity;
+  };
+  kept = λ node. kept_of a.first.node.kept;
+  packets = [];
+}
+
+abbrev pub ghosts-both_parts-L-Ledger : goal.ghosts-both_parts-L-Ledger
+ghosts-both_parts-L-Ledger g a = record { name = a.first.blank.name; parts = a.first.blank.parts }
