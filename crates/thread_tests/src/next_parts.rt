@@ -18,13 +18,14 @@ use std::process::Abort;
 use std::sync::Wait;
 use std::sync::ledger::Blank;
 
-/// What is at hand where a part begins: with what the node begins the first, and what the second goes on with, from which number on.
+/// What the first part begins with.
 #[derive(Drop)]
 struct First {
     blank: Blank,
     node: Node<ListStore>,
 }
 
+/// What the second part goes on with, and from which number on packets of the first may still come.
 #[derive(Drop)]
 struct Second {
     blank: Blank,
