@@ -11,3 +11,5 @@ mod lives;
 mod same;
 #[cfg(test)]
 mod tables;
+#[cfg(test)]
+mod together;
