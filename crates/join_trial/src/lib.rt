@@ -1,6 +1,8 @@
 //! Trial.
 #![tactic(auto)]
 
+ghost use Rattle.std.specs.Prelude.{◌≡◌};
+
 use journal_parts::{Begins, Seat};
 use mc_types::NodeNo;
 use node_core::Life;
@@ -29,4 +31,11 @@ pub fn both<S: StableStore + Send, L: Begins + Send + Sync, R: Threads + Wait + 
     life: &Life,
 ) {
     thread::join(rt, || hand_in(rt, cluster, one, life), || hand_in(rt, cluster, other, life));
+}
+
+#[tactic(auto, using(crate::proofs::NodeCrossing::node_send, crate::proofs::Texts::text_list))]
+pub fn probe(x: u8) -> u8
+    ensures { result ≡ x }
+{
+    x
 }
