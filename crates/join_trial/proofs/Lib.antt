@@ -1,3 +1,0 @@
-pub mod Crossing
-pub mod NodeCrossing
-pub mod Texts
