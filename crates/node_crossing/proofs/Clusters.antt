@@ -32,57 +32,93 @@ option_sync T s = search sendable depth 20
 module _ (S : RattleType) (s : Store.Ghosts S.Denot) where
   module _ (store : IsSend S) where
     pub node_send : IsSend (Node.the_row S s)
-    node_send = view_send (NodeFields.the_row S s) _ _ _ _ (declared_send (NodeFields.the_type S s)
-      (search (as_row_send, store),
-      (kept_send,
-      (search sendable,
-      (option_send _ packet.the_send,
-      (option_send _ stopped.the_send,
-      (option_send _ (Vec-send _ (text.the_send (number 16))), tt)))))))
+    node_send = view_send (NodeFields.the_row S s) _ _ _ _ (declared_send (NodeFields.the_type S s) (
+      search (as_row_send, store),
+      (
+        kept_send,
+        (
+          search sendable,
+          (
+            option_send _ packet.the_send,
+            (
+              option_send _ stopped.the_send,
+              (option_send _ (Vec-send _ (text.the_send (number 16))), tt),
+            ),
+          ),
+        ),
+      ),
+    ))
 
     pub post_send : IsSend (Post.the_row S s)
-    post_send = declared_send (Post.the_type S s)
-      (node_send,
-      (option_send _ halted.the_send,
-      (search sendable, tt)))
+    post_send = declared_send (Post.the_type S s) (
+      node_send,
+      (
+        option_send _ halted.the_send,
+        (search sendable, tt),
+      ),
+    )
 
   module _ (store : IsSync S) where
     pub node_sync : IsSync (Node.the_row S s)
-    node_sync = view_sync (NodeFields.the_row S s) _ _ _ _ (declared_sync (NodeFields.the_type S s)
-      (search (as_row_sync, store),
-      (kept_sync,
-      (search sendable,
-      (option_sync _ packet.the_sync,
-      (option_sync _ stopped.the_sync,
-      (option_sync _ (Vec-sync _ (text.the_sync (number 16))), tt)))))))
+    node_sync = view_sync (NodeFields.the_row S s) _ _ _ _ (declared_sync (NodeFields.the_type S s) (
+      search (as_row_sync, store),
+      (
+        kept_sync,
+        (
+          search sendable,
+          (
+            option_sync _ packet.the_sync,
+            (
+              option_sync _ stopped.the_sync,
+              (option_sync _ (Vec-sync _ (text.the_sync (number 16))), tt),
+            ),
+          ),
+        ),
+      ),
+    ))
 
     pub post_sync : IsSync (Post.the_row S s)
-    post_sync = declared_sync (Post.the_type S s)
-      (node_sync,
-      (option_sync _ halted.the_sync,
-      (search sendable, tt)))
+    post_sync = declared_sync (Post.the_type S s) (
+      node_sync,
+      (
+        option_sync _ halted.the_sync,
+        (search sendable, tt),
+      ),
+    )
 
   module _ (L : RattleType) (l : Begins.Ghosts L.Denot) (k : Ledger.Ghosts L.Denot) where
     pub member_send : IsSend S → IsSend (Member.the_row S L s l k)
-    member_send store = view_send (MemberFields.the_row S L s l k) _ _ _ _ (declared_send (MemberFields.the_type S L s l k)
-      (post_send store,
-      (Vec-send _ entry.the_send,
-      (search sendable, tt))))
+    member_send store = view_send (MemberFields.the_row S L s l k) _ _ _ _ (declared_send (MemberFields.the_type S L s l k) (
+      post_send store,
+      (
+        Vec-send _ entry.the_send,
+        (search sendable, tt),
+      ),
+    ))
 
     pub member_sync : IsSync S → IsSync (Member.the_row S L s l k)
-    member_sync store = view_sync (MemberFields.the_row S L s l k) _ _ _ _ (declared_sync (MemberFields.the_type S L s l k)
-      (post_sync store,
-      (Vec-sync _ entry.the_sync,
-      (search sendable, tt))))
+    member_sync store = view_sync (MemberFields.the_row S L s l k) _ _ _ _ (declared_sync (MemberFields.the_type S L s l k) (
+      post_sync store,
+      (
+        Vec-sync _ entry.the_sync,
+        (search sendable, tt),
+      ),
+    ))
 
     pub cluster_send : IsSend S → IsSend (Cluster.the_row S L s l k)
-    cluster_send store = declared_send (Cluster.the_type S L s l k)
-      (search sendable depth 20,
-      (Vec-send _ (search (crosses, member_send store)),
-      (search (crosses, register.the_send), tt)))
+    cluster_send store = declared_send (Cluster.the_type S L s l k) (
+      search sendable depth 20,
+      (
+        Vec-send _ (search (crosses, member_send store)),
+        (search (crosses, register.the_send), tt),
+      ),
+    )
 
     pub cluster_sync : IsSend S → IsSync (Cluster.the_row S L s l k)
-    cluster_sync store = declared_sync (Cluster.the_type S L s l k)
-      (search sendable depth 20,
-      (Vec-sync _ (search (crosses, member_send store)),
-      (search (crosses, register.the_send), tt)))
+    cluster_sync store = declared_sync (Cluster.the_type S L s l k) (
+      search sendable depth 20,
+      (
+        Vec-sync _ (search (crosses, member_send store)),
+        (search (crosses, register.the_send), tt),
+      ),
+    )

@@ -20,8 +20,18 @@ request_send : IsSend Request.the_row
 request_send = search (sendable, crosses, taken_send) depth 30
 
 held_send : IsSend Held.the_row
-held_send = search (crosses, view_send, declared_send, variants_send, as_row_send, plain_send, request_send, vote.the_send,
-  moment.the_send, nodes.the_send) depth 20
+held_send = search (
+  crosses,
+  view_send,
+  declared_send,
+  variants_send,
+  as_row_send,
+  plain_send,
+  request_send,
+  vote.the_send,
+  moment.the_send,
+  nodes.the_send,
+) depth 20
 
 queue_send : IsSend Queue.the_row
 queue_send = search (sendable, crosses, held_send) depth 30
@@ -36,8 +46,18 @@ request_sync : IsSync Request.the_row
 request_sync = search (sendable, crosses, taken_sync) depth 30
 
 held_sync : IsSync Held.the_row
-held_sync = search (crosses, view_sync, declared_sync, variants_sync, as_row_sync, plain_sync, request_sync, vote.the_sync,
-  moment.the_sync, nodes.the_sync) depth 20
+held_sync = search (
+  crosses,
+  view_sync,
+  declared_sync,
+  variants_sync,
+  as_row_sync,
+  plain_sync,
+  request_sync,
+  vote.the_sync,
+  moment.the_sync,
+  nodes.the_sync,
+) depth 20
 
 queue_sync : IsSync Queue.the_row
 queue_sync = search (sendable, crosses, held_sync) depth 30

@@ -197,10 +197,10 @@ fn worked_beside<L: Begins + Send + Sync, R: Threads + Wait + Abort + Sync>(
     let mut seat = cluster.seat(rt).expect(rt, "a seat");
     let hints = Hints::make(alloc, 10).expect(rt, "hints");
     let mut gate = PlayedGate { esme: Esme::Ready };
-    let (worked, ()) = thread::join(
+    let ((), worked) = thread::join(
         rt,
-        || worker(&cluster, rt, &mut seat, &life, &hints, &mut gate),
         || handed_in_and_shut(rt, alloc, &cluster, &hints),
+        || worker(&cluster, rt, &mut seat, &life, &hints, &mut gate),
     );
     worked.expect(rt, "no refusal");
     outcomes(rt, alloc, &seat)
