@@ -20,6 +20,8 @@ use std::marker::Brand;
 use std::process::Abort;
 use std::sync::Wait;
 use std::sync::ledger::Blank;
+use std::thread;
+use std::thread::Threads;
 use worker_parts::Hints;
 use world::Step;
 
@@ -163,5 +165,57 @@ fn a_workers_octets_are_numbered(rt: HostRuntime) {
         &rt,
         &two.as_slice(),
         &[Outcome::unanswered(), Outcome::Delivered].as_slice(),
+    );
+}
+/// Hands in two messages from a seat of its own, hints at them, and shuts the hints.
+fn handed_in_and_shut<L: Begins, R: Wait + Abort>(
+    rt: &R,
+    alloc: Global,
+    cluster: &Cluster<ListStore, L>,
+    hints: &Hints,
+) {
+    let mut seat = cluster.seat(rt).expect(rt, "a seat");
+    handed_in(rt, alloc, cluster, &mut seat, 2);
+    hint(cluster, rt, first(rt), hints).expect(rt, "a node");
+    hints.shut(rt);
+}
+
+/// What comes of two messages that another thread hands in while a worker waits for them.
+fn worked_beside<L: Begins + Send + Sync, R: Threads + Wait + Abort + Sync>(
+    rt: &R,
+    alloc: Global,
+    opened: Opened,
+) -> Vec<Outcome>
+    requires name { opened.blank.name ≡ L.name }
+    requires parts { opened.blank.parts ≡ L.parts }
+    requires all { opened.blank.parts ≡ 1000000 }
+    requires packets { L.packets ≡ [] }
+    requires begins { IsBeginning L.cluster L.kept opened.node }
+    requires alone { L.cluster.nodes ≡ 1 }
+{
+    let Opened { blank, node, life } = opened;
+    let mut nodes = Vec::new(alloc);
+    nodes.push(node).expect(rt, "memory");
+    let cluster = Cluster::<ListStore, L>::start(alloc, blank, nodes).expect(rt, "a cluster");
+    let mut seat = cluster.seat(rt).expect(rt, "a seat");
+    let hints = Hints::make(alloc, 10).expect(rt, "hints");
+    let mut gate = PlayedGate { esme: Esme::Ready };
+    let ((), worked) = thread::join(
+        rt,
+        || handed_in_and_shut(rt, alloc, &cluster, &hints),
+        || worker(&cluster, rt, &mut seat, &life, &hints, &mut gate),
+    );
+    worked.expect(rt, "no refusal");
+    outcomes(rt, alloc, &seat)
+}
+
+#[test]
+fn a_worker_delivers_what_another_thread_hands_in(rt: HostRuntime) {
+    let alloc = rt.alloc();
+    let outcomes = worked_beside::<Brand, HostRuntime>(&rt, alloc, opened_now(&rt, alloc));
+    assert_same(
+        &rt,
+        &outcomes.as_slice(),
+        &[Outcome::Delivered, Outcome::Delivered].as_slice(),
     );
 }

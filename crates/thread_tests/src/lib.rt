@@ -27,3 +27,5 @@ mod replays;
 mod same;
 #[cfg(test)]
 mod tables;
+#[cfg(test)]
+mod together;

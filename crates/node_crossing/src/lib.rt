@@ -1,0 +1,28 @@
+//! What of the nodes of a cluster may go to another thread, and what threads may share.
+#![tactic(auto)]
+
+use journal_parts::Begins;
+use node_core::Node;
+use node_threads::Cluster;
+use stable_store::StableStore;
+
+/// What a type has that may go to another thread. The call does nothing.
+fn goes<T: Send>() {}
+
+/// What a type has that threads may share. The call does nothing.
+fn is_shared<T: Sync>() {}
+
+/// A node may go to another thread, if its store may. The call does nothing.
+pub fn node_goes<S: StableStore + Send>() {
+    goes::<Node<S>>();
+}
+
+/// A cluster may go to another thread, if its nodes' stores may. The call does nothing.
+pub fn cluster_goes<S: StableStore + Send, L: Begins + Send>() {
+    goes::<Cluster<S, L>>();
+}
+
+/// Threads may share a cluster, if its nodes' stores may go to another thread. The call does nothing.
+pub fn cluster_is_shared<S: StableStore + Send, L: Begins + Send>() {
+    is_shared::<Cluster<S, L>>();
+}
