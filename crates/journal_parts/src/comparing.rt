@@ -39,9 +39,7 @@ impl<L: Begins> Register<L> {
             return false;
         };
         match self.noted.get(place as usize) {
-            Some(noted) => {
-                noted.before == slip.packets_before() && noted.entry.is(slip.entry())
-            }
+            Some(noted) => { noted.before == slip.packets_before() && noted.entry.is(slip.entry()) }
             None => false,
         }
     }

@@ -23,7 +23,6 @@ impl Model for Marks {
     ghost Value = { Marked };
 
     ghost view = { λ m. record { marks = m.marks.items; most = vec_capacity m.marks } };
-
 }
 
 impl Marks {

@@ -22,7 +22,7 @@ pub fn cluster_goes<S: StableStore + Send, L: Begins + Send>() {
     goes::<Cluster<S, L>>();
 }
 
-/// Threads may share a cluster, if its nodes' stores may go to another thread. The call does nothing.
-pub fn cluster_is_shared<S: StableStore + Send, L: Begins + Send>() {
+/// Threads may share a cluster, if its nodes' stores may go to another thread and threads may share one. The call does nothing.
+pub fn cluster_is_shared<S: StableStore + Send + Sync, L: Begins + Send + Sync>() {
     is_shared::<Cluster<S, L>>();
 }

@@ -88,9 +88,7 @@ impl<S: StableStore + Drop, L: Begins> Opened<S, L> {
         if !self.register.has_each_once(seats) {
             return Err(SeatsFault::Missing);
         }
-        if !self.register.has_seats(seats)
-            || !finds_all(&self.register, self.members.as_slice())
-        {
+        if !self.register.has_seats(seats) || !finds_all(&self.register, self.members.as_slice()) {
             return Err(SeatsFault::Differs);
         }
         Ok(())
@@ -113,10 +111,7 @@ impl<S: StableStore + Drop, L: Begins> Opened<S, L> {
 }
 
 /// Whether each of these is the node at its place, and has just the entries that the journal has of it.
-fn finds_all<S: StableStore, L: Begins>(
-    register: &Register<L>,
-    members: &[Member<S, L>],
-) -> bool
+fn finds_all<S: StableStore, L: Begins>(register: &Register<L>, members: &[Member<S, L>]) -> bool
     ensures { IsTrue result → AllFound S.stored L.cluster L.kept register.now.entries 0 (map (λ member. member.post) members.now) }
 {
     for (place, member) in members.iter().enumerate() {

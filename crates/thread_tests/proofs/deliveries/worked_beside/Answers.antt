@@ -6,4 +6,4 @@ use Rattle.node_crossing.proofs.Clusters.{cluster_sync}
 use Rattle.thread_tests.proofs.deliveries.worked_beside.Goals as goal
 
 pub join-worked-requires-send-F : goal.join-worked-requires-send-F
-join-worked-requires-send-F g c κs within = search (sendable, heap.the_sync, list.the_send, hints.the_sync, cluster_sync) depth 60
+join-worked-requires-send-F g c κs within = search (sendable, heap.the_sync, list.the_send, list.the_sync, hints.the_sync, cluster_sync) depth 60

@@ -6,4 +6,4 @@ use Rattle.node_crossing.proofs.Clusters.{cluster_sync}
 use Rattle.thread_tests.proofs.together.ticked_by_two.Goals as goal
 
 pub join-requires-send-F : goal.join-requires-send-F
-join-requires-send-F g c κs within = search (sendable, heap.the_sync, list.the_send, seat.the_send, cluster_sync) depth 60
+join-requires-send-F g c κs within = search (sendable, heap.the_sync, list.the_send, list.the_sync, seat.the_send, cluster_sync) depth 60
