@@ -41,8 +41,8 @@ impl<S: StableStore + Drop, L: Begins> Cluster<S, L> {
     /// Closes a cluster with all seats that have slips: its journal, in which each node's entries are those that it has, and each slip of a seat stands at its
     /// number, which rise. It takes no memory.
     ///
-    /// Missing comes exactly if the numbers of the slips are not those of the entries, each once, and Differs else if the comparison fails: no
-    /// seats of this cluster meet it, unless an answer was Full though there was room. Then the cluster and the seats come back.
+    /// Missing comes if the numbers of the slips are not those of the entries, each once, and Differs else if the comparison fails. Then the cluster and the
+    /// seats come back. No clause says that seats of this cluster never meet Differs: tests do, of answers that were not Full.
     pub fn close(self, seats: Vec<Seat<L>>) -> Result<Journal<S>, SeatsOut<S, L>>
         ensures closed { IfOk result (λ journal. IsClosed S.stored L.cluster L.kept L.packets journal) }
         ensures each { IfOk result (λ journal. EachOnce (length (entries_in journal)) seats.items) }
