@@ -21,6 +21,7 @@ use Rattle.journal_parts.specs.declared.carried.Carried.{Carried}
 use Rattle.journal_parts.specs.Closing.{AllFound, AreSure, IsClosed, IsFound, StandsAt, entry_at}
 use Rattle.journal_parts.specs.Entries.{IsSound, entry_of}
 use Rattle.journal_parts.specs.Members.{IsMember, Posted, packet_halted}
+use Rattle.journal_parts.specs.Numbers.{Numbers}
 use Rattle.journal_parts.specs.Registers.{AreNumbered, IsRegister, count_in, entries_of}
 use Rattle.journal_parts.specs.Slips.{Slipped}
 use Rattle.journal_parts.proofs.Numbers.{sent_first}
@@ -39,10 +40,10 @@ numbers_before (first ∷ front) back one before sent are sound =
     omega (arith, later, here, both)
 
 -- Whoever has the number of an entry, and is of the same, stands at it.
-pub stands_at : (noted : List Noted) (packets : List Packet) (sent place : ℕ) (one : Noted) (slip : Slipped) → AreNumbered (length packets) noted sent →
+pub stands_at : (noted : List Noted) (count : ℕ) (sent place : ℕ) (one : Noted) (slip : Slipped) → AreNumbered count noted sent →
     ((entry : Entry) → In entry (entries_of noted) → IsSound entry) → slice_get noted place ≡ Some one → slip.number ≡ place + 1 →
-    slip.before ≡ one.before → AreAlike (entry_of one.entry) slip.entry → StandsAt (length packets) (entries_of noted) slip
-stands_at noted packets sent place one slip are sound is number before same =
+    slip.before ≡ one.before → AreAlike (entry_of one.entry) slip.entry → StandsAt count (entries_of noted) slip
+stands_at noted count sent place one slip are sound is number before same =
     let it = split_at noted place one is in
     let long = map_length (λ (n : Noted). entry_of n.entry) it.front in
     let at = it.place_is in
@@ -52,8 +53,8 @@ stands_at noted packets sent place one slip are sound is number before same =
       newer = entries_of it.back;
       split = ap entries_of it.split ∙ map-append (λ (n : Noted). entry_of n.entry) it.front (one ∷ it.back);
       number = omega (arith, number, at, long);
-      packets = before ∙ numbers_before it.front it.back one (length packets) sent
-          (subst (λ (ns : List Noted). AreNumbered (length packets) ns sent) it.split are)
+      packets = before ∙ numbers_before it.front it.back one count sent
+          (subst (λ (ns : List Noted). AreNumbered count ns sent) it.split are)
           (λ entry among. sound entry (subst (λ (ns : List Noted). In entry (entries_of ns)) (sym it.split) among));
       same = same;
     }
@@ -149,15 +150,15 @@ module _ {S : Type 0} (stored : S → Stored) (cluster : Cluster) (kept : ℕ �
     few_all (first ∷ later) all count = all.0.few
 
   -- If each node is found at its place, the journal is closed behind them.
-  pub closed : (packets : List Packet) (noted : List Noted) (carried : List Carried) (sent : ℕ) (posts : List (Posted S)) →
-      IsRegister cluster packets noted carried sent → length posts ≡ cluster.nodes → AllFound stored cluster kept (entries_of noted) 0 posts →
-      IsClosed stored cluster kept packets (record {
+  pub closed : (numbers : Numbers) (noted : List Noted) (carried : List Carried) (sent : ℕ) (posts : List (Posted S)) →
+      IsRegister cluster numbers noted carried sent → length posts ≡ cluster.nodes → AllFound stored cluster kept (entries_of noted) 0 posts →
+      IsClosed stored cluster kept numbers (record {
         noted = noted;
         carried = carried;
         sent = sent;
         posts = posts;
       })
-  closed packets noted carried sent posts register count all = record {
+  closed numbers noted carried sent posts register count all = record {
     register = register;
     count = count;
     setups = λ place post is.
@@ -165,13 +166,13 @@ module _ {S : Type 0} (stored : S → Stored) (cluster : Cluster) (kept : ℕ �
         setups_from (entries_of noted) 0 posts all place post is ∙ ap (setup_of cluster) at;
     halts = halts_from (entries_of noted) 0 posts all;
     ends = ends_from (entries_of noted) 0 posts all;
-    part = λ sure. record {
+    part = λ sure packets have. record {
       few = few_all (entries_of noted) posts all count;
       nodes = register.nodes;
       own = λ node within.
           let below = within.1 in
           own_from (entries_of noted) 0 posts all node within.0 (omega (arith, below, count)) sure;
-      sent = register.came;
+      sent = register.came packets have;
     };
     lasts = lasts_from (entries_of noted) 0 posts all;
   }

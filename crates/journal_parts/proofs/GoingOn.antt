@@ -2,6 +2,7 @@
 use Rattle.std.proofs.Common.{◌≡◌, ◌⊎◌, ℕ, zero, suc, ◌+◌, ◌-◌, ◌≤◌, ◌<◌, Bool, true, false, List, [], ◌∷◌, ◌++◌, length, Some}
 use Rattle.std.proofs.Common.{refl, sym, ap, subst, ◌∙◌, inl, inr, arith, length-append}
 use Rattle.std.proofs.lemmas.List.{length-reverse}
+use Rattle.std.proofs.lemmas.List.Elements.{filter-append}
 use Rattle.std.specs.Prelude.{◌==◌, if◌then◌else◌, reverse, slice_get}
 use Rattle.std.proofs.lemmas.Bool.Decides.{nat_tests}
 use Rattle.std.proofs.lemmas.Option.{slice_get_within}
@@ -9,20 +10,23 @@ use Rattle.mc_model.specs.node.Setup.{Setup}
 use Rattle.mc_model.specs.synod.Lists.{In}
 use Rattle.mc_model.specs.synod.Packet.{Packet}
 use Rattle.mc_model.specs.cluster.Steps.{Cluster, setup_of}
-use Rattle.mc_parts.proofs.Membership.{at_place, in_two}
+use Rattle.mc_parts.proofs.Membership.{at_place, in_either}
 use Rattle.node_model.specs.Kept.{Kept}
 use Rattle.node_core.specs.Keeping.{kept_of}
 use Rattle.stable_store.specs.Stored.{Stored}
+use Rattle.std.specs.Arc.{arc_value}
 use Rattle.synod_acceptor.specs.Packets.{packet_of}
+use Rattle.synod_acceptor.specs.declared.packet.Packet.{Packet as Sent}
 use Rattle.journal_laws.specs.Journals.{IsInRange, IsOwnRun, done_in, entries_at, packets_sent}
 use Rattle.journal_laws.specs.Parts.{IsPart}
 use Rattle.journal_laws.proofs.Parts.{parts_go_on}
 use Rattle.journal_parts.specs.declared.carried.Carried.{Carried}
 use Rattle.journal_parts.specs.declared.noted.Noted.{Noted}
 use Rattle.journal_parts.specs.Closing.{AreSure, Closed, IsClosed, entries_in}
-use Rattle.journal_parts.specs.GoingOn.{AreAdded, AreSound, GoesOn, IsAgain, IsOfAny, kept_in, numbered_behind}
+use Rattle.journal_parts.specs.GoingOn.{AreSound, GoesOn, kept_in, numbered_behind, numbers_behind}
 use Rattle.journal_parts.specs.Members.{IsMember, Posted}
-use Rattle.journal_parts.specs.Registers.{IsCarried, IsRegister, entries_of}
+use Rattle.journal_parts.specs.Numbers.{HaveNumbers, IsCarried, Numbers, all_from, all_sent_by, is_from, numbered_from, sent_by}
+use Rattle.journal_parts.specs.Registers.{AreNumbered, IsNumberedIn, IsRegister}
 use Rattle.journal_parts.proofs.Numbers.{number_kept, numbered}
 use Rattle.journal_parts.proofs.Unsent.{sent_count}
 
@@ -38,71 +42,68 @@ there_is [] place within = absurd (omega (arith, within))
 there_is (y ∷ ys) zero within = (y, refl)
 there_is (y ∷ ys) (suc place) within = there_is ys place (omega (arith, within))
 
--- ---- one packet more
-
-pub more_added : (before all more : List Carried) (one : Carried) (IsSuch : Carried → Type 0) → AreAdded before IsSuch all → IsSuch one →
-    more ≡ all ++ one ∷ [] → AreAdded before IsSuch more
-more_added before all more one IsSuch are is pushed = λ other among.
-    elim (in_two other all one (subst (λ (cs : List Carried). In other cs) pushed among)) [
-      | inl old ↦ are other old
-      | inr same ↦ inr (subst IsSuch (sym same) is)
-    ]
-
--- what was added to what was added
-pub added_twice : (before all more : List Carried) (IsSuch IsOther : Carried → Type 0) → AreAdded before IsSuch all → AreAdded all IsOther more →
-    ((one : Carried) → IsOther one → IsSuch one) → AreAdded before IsSuch more
-added_twice before all more IsSuch IsOther are last is = λ one among.
-    elim (last one among) [ inl old ↦ are one old | inr new ↦ inr (is one new) ]
-
--- What was added behind nothing, and what was added behind that.
-pub added_in_all : (from : ℕ) (carried all : List Carried) (noted every : List Noted) (none first last : List Carried) → all ≡ carried → every ≡ noted →
-    none ≡ [] → AreAdded none (IsAgain from all) first → AreAdded first (IsOfAny from every) last → (one : Carried) → In one last →
-    IsAgain from carried one ⊎ IsOfAny from noted one
-added_in_all from carried all noted every none first last same alike is again of one among = elim (of one among) [
-  | inl before ↦ elim (again one before) [
-    | inl nobody ↦ absurd (subst (λ (cs : List Carried). In one cs) is nobody)
-    | inr old ↦ inl (subst (λ (cs : List Carried). IsAgain from cs one) same old)
-  ]
-  | inr new ↦ inr (subst (λ (ns : List Noted). IsOfAny from ns one) alike new)
-]
-
 -- ---- the packets of both parts
 
 again_kept : (packets newer : List Packet) (carried : List Carried) (one : Carried) → ((other : Carried) → In other carried → IsCarried packets other) →
     In one carried → IsCarried (newer ++ packets) one
 again_kept packets newer carried one each among = number_kept packets newer one.number (packet_of one.packet) (each one among)
 
-pub carried_on : (cluster : Cluster) (packets : List Packet) (noted : List Noted) (carried : List Carried) (sent from : ℕ) (one : Carried) →
-    IsRegister cluster packets noted carried sent → IsAgain from carried one ⊎ IsOfAny from noted one →
-    IsCarried (reverse (packets_sent (entries_of noted)) ++ packets) one
-carried_on cluster packets noted carried sent from one is (inl again) =
-    again_kept packets (reverse (packets_sent (entries_of noted))) carried one is.carries again.1
-carried_on cluster packets noted carried sent from one is (inr (here, among, of)) =
-    let (place, at) = place_in noted here among in
-    numbered noted packets sent place one.number here one.packet is.numbered is.sound at of.1
+-- one that stands under its number was sent by the entry
+numbered_in : (before : ℕ) (sent : List Sent) (one : Carried) → In one (numbered_from before sent) →
+    (place : ℕ) × (slice_get sent place ≡ Some one.packet) × (one.number ≡ before + (place + 1))
+numbered_in before [] one none = absurd none
+numbered_in before (packet ∷ later) one (inl same) =
+    (zero, (ap (λ (c : Carried). Some c.packet) (sym same), ap (λ (c : Carried). c.number) same))
+numbered_in before (packet ∷ later) one (inr among) =
+    let (place, (is, number)) = numbered_in (before + 1) later one among in (suc place, (is, omega (arith, number)))
 
-pub from_on : (from : ℕ) (noted : List Noted) (carried : List Carried) (one : Carried) → IsAgain from carried one ⊎ IsOfAny from noted one → from ≤ one.number
-from_on from noted carried one (inl again) = again.0
-from_on from noted carried one (inr (here, among, of)) = of.0
+sent_in : (noted : List Noted) (one : Carried) → In one (all_sent_by noted) → (here : Noted) × In here noted × IsNumberedIn here one.number one.packet
+sent_in [] one none = absurd none
+sent_in (first ∷ later) one among = elim (in_either one (sent_by first) (all_sent_by later) among) [
+  | inl here ↦
+      let (place, (is, number)) = numbered_in first.before (arc_value first.entry.done).outputs.packets.items one here in
+      (first, (inl refl, record { place = place; is = is; number_is = number }))
+  | inr there ↦ let (other, (behind, is)) = sent_in later one there in (other, (inr behind, is))
+]
 
-module _ {S : Type 0} (stored : S → Stored) (cluster : Cluster) (kept : ℕ → Kept) (packets : List Packet) (closed : Closed S)
-    (goes : GoesOn stored cluster kept packets closed) where
-  -- so many packets have numbers where the next part begins
-  pub numbers_go_on : length packets ≡ closed.sent
-  numbers_go_on =
-      let sent = packets_sent (entries_in closed) in
-      let all = ap (λ (ps : List Packet). length ps) goes.packets_are in
-      let both = length-append (reverse sent) goes.before in
-      let turned = length-reverse sent in
-      let counted = sent_count (length goes.before) closed.noted closed.sent goes.register.numbered goes.register.sound in
-      omega (arith, all, both, turned, counted)
+module _ {S : Type 0} (cluster : Cluster) (numbers : Numbers) (packets : List Packet) (closed : Closed S)
+    (register : IsRegister cluster numbers closed.noted closed.carried closed.sent) (have : HaveNumbers numbers packets) where
+  come_behind : (one : Carried) → In one closed.carried ⊎ In one (all_sent_by closed.noted) → IsCarried (numbered_behind closed packets) one
+  come_behind one (inl again) =
+      again_kept packets (reverse (packets_sent (entries_in closed))) closed.carried one (λ other among. have.come other (register.carries other among)) again
+  come_behind one (inr sent) =
+      let (here, (among, is)) = sent_in closed.noted one sent in
+      let (place, at) = place_in closed.noted here among in
+      numbered closed.noted packets closed.sent place one.number here one.packet
+      (subst (λ (n : ℕ). AreNumbered n closed.noted closed.sent) (sym have.count) register.numbered) register.sound at is
 
-  -- and what is carried has its number there
-  pub all_carried : (carried : List Carried) →
-      ((cluster : Cluster) (packets : List Packet) → IsRegister cluster packets closed.noted closed.carried closed.sent →
-      (one : Carried) → In one carried → IsCarried (numbered_behind closed packets) one) → (one : Carried) → In one carried → IsCarried packets one
-  all_carried carried each one among =
-      subst (λ (ps : List Packet). IsCarried ps one) (sym goes.packets_are) (each cluster goes.before goes.register one among)
+  -- Behind a journal the packets of before and those of its entries have the numbers that go on.
+  pub numbers_go_on : HaveNumbers (numbers_behind closed) (numbered_behind closed packets)
+  numbers_go_on = record {
+    count =
+        let sent = packets_sent (entries_in closed) in
+        let both = length-append (reverse sent) packets in
+        let turned = length-reverse sent in
+        let counted = sent_count numbers.count closed.noted closed.sent register.numbered register.sound in
+        let begins = have.count in
+        omega (arith, both, turned, counted, begins);
+    come = λ one among. come_behind one (in_either one closed.carried (all_sent_by closed.noted) among);
+  }
+
+-- ---- what is carried
+
+pub from_both : (from : ℕ) (first second : List Carried) → all_from from first ++ all_from from second ≡ all_from from (first ++ second)
+from_both from first second = sym (filter-append (is_from from) first second)
+
+-- What is carried came from those that may come.
+pub from_among : (from : ℕ) (all : List Carried) (one : Carried) → In one (all_from from all) → In one all
+from_among from [] one none = absurd none
+from_among from (first ∷ later) one among = kept_among (is_from from first) among
+  where
+    kept_among : (b : Bool) → In one (if b then first ∷ all_from from later else all_from from later) → In one (first ∷ later)
+    kept_among true (inl same) = inl same
+    kept_among true (inr there) = inr (from_among from later one there)
+    kept_among false there = inr (from_among from later one there)
 
 -- ---- what the nodes keep
 
@@ -128,8 +129,8 @@ module _ {S : Type 0} (other : Kept) where
       ∙ ap (kept_in other later) (sym next)
       ∙ kept_from (behind + 1) later (λ at one there. (let is_at = stand (suc at) one there in omega (arith, is_at))) place post is
 
-module _ {S : Type 0} (stored : S → Stored) (cluster : Cluster) (kept : ℕ → Kept) (packets : List Packet) (closed : Closed S) (other : Kept)
-    (is : IsClosed stored cluster kept packets closed) where
+module _ {S : Type 0} (stored : S → Stored) (cluster : Cluster) (kept : ℕ → Kept) (numbers : Numbers) (closed : Closed S) (other : Kept)
+    (is : IsClosed stored cluster kept numbers closed) where
   stand : (place : ℕ) (post : Posted S) → slice_get closed.posts place ≡ Some post → post.node.kept.setup.node ≡ place + 1
   stand place post there = ap (λ (s : Setup). s.node) (is.setups place post there)
 
@@ -156,13 +157,11 @@ module _ {S : Type 0} (stored : S → Stored) (cluster : Cluster) (kept : ℕ �
     is_end = λ still. refl;
   }
 
-  pub goes_on : AreSound closed.posts → GoesOn stored cluster (kept_in other closed.posts) (numbered_behind closed packets) closed
+  pub goes_on : AreSound closed.posts → GoesOn stored cluster (kept_in other closed.posts) (numbers_behind closed) closed
   goes_on sound = record {
     count = is.count;
     members = λ post among. let at = place_in closed.posts post among in member_at at.0 post at.1 among;
-    before = packets;
-    packets_are = refl;
-    register = is.register;
+    numbers_are = refl;
   }
 
   -- The part ends for each node where the next one begins for it.
@@ -186,11 +185,11 @@ module _ {S : Type 0} (stored : S → Stored) (cluster : Cluster) (kept : ℕ �
       ends_at sound (node - 1) node found.0 number found.1
 
   pub both_are_one : (second : Closed S) → AreSure stored closed.posts → AreSound closed.posts →
-      (later : IsClosed stored cluster (kept_in other closed.posts) (numbered_behind closed packets) second) → AreSure stored second.posts →
-      IsPart cluster kept packets (entries_in closed ++ entries_in second) later.ends
-  both_are_one second sure sound later certain =
-      let part = later.part certain in
-      parts_go_on cluster kept is.ends later.ends packets (entries_in closed) (entries_in second) (is.part sure) (record {
+      (later : IsClosed stored cluster (kept_in other closed.posts) (numbers_behind closed) second) → AreSure stored second.posts →
+      (packets : List Packet) → HaveNumbers numbers packets → IsPart cluster kept packets (entries_in closed ++ entries_in second) later.ends
+  both_are_one second sure sound later certain packets have =
+      let part = later.part certain (numbered_behind closed packets) (numbers_go_on cluster numbers packets closed is.register have) in
+      parts_go_on cluster kept is.ends later.ends packets (entries_in closed) (entries_in second) (is.part sure packets have) (record {
         few = part.few;
         nodes = part.nodes;
         own = λ node within.

@@ -25,7 +25,8 @@ use Rattle.journal_laws.proofs.Joining.{done_both, sent_both}
 use Rattle.journal_parts.specs.declared.noted.Noted.{Noted}
 use Rattle.journal_parts.specs.declared.carried.Carried.{Carried}
 use Rattle.journal_parts.specs.Entries.{IsSound, NamesASave, entry_of, number_by, number_of}
-use Rattle.journal_parts.specs.Registers.{AreNumbered, CameFrom, HasPacket, IsCarried, IsNumberedIn, IsRegister, count_in, entries_of}
+use Rattle.journal_parts.specs.Numbers.{HaveNumbers, IsCarried, Numbers}
+use Rattle.journal_parts.specs.Registers.{AreNumbered, CameFrom, HasPacket, IsNumberedIn, IsRegister, count_in, entries_of}
 
 -- ---- the packets of an entry
 
@@ -97,7 +98,7 @@ sent_of noted = (entry_of noted.entry).done.sent
 -- What an entry sent under a number has it in the journal.
 pub numbered : (noted : List Noted) (packets : List Packet) (sent place number : ℕ) (one : Noted) (packet : Sent) → AreNumbered (length packets) noted sent →
     ((entry : Entry) → In entry (entries_of noted) → IsSound entry) → slice_get noted place ≡ Some one → IsNumberedIn one number packet →
-    HasPacket packets (entries_of noted) number (packet_of packet)
+    HasItsNumber 0 (sent_behind packets (packets_sent (entries_of noted))) number (packet_of packet)
 numbered [] packets sent place number one packet are sound is here = absurd (cc)
 numbered (first ∷ later) packets sent zero number one packet are sound is here =
     let same : first ≡ one = cc in
@@ -122,28 +123,28 @@ numbered (first ∷ later) packets sent (suc place) number one packet are sound 
     (more_behind packets (sent_of first) (packets_sent (entries_of later))
     ∙ ap (sent_behind packets) (sym (sent_first (entry_of first.entry) (entries_of later) (sound (entry_of first.entry) (inl refl))))) found
 
-pub carried_has : (packets : List Packet) (entries : List Entry) (carried : Carried) (number : ℕ) → IsCarried packets carried → carried.number ≡ number →
-    HasPacket packets entries number (packet_of carried.packet)
+carried_has : (packets : List Packet) (entries : List Entry) (carried : Carried) (number : ℕ) → IsCarried packets carried → carried.number ≡ number →
+    HasItsNumber 0 (sent_behind packets (packets_sent entries)) number (packet_of carried.packet)
 carried_has packets entries carried number is same =
-    subst (λ (n : ℕ). HasPacket packets entries n (packet_of carried.packet)) same
+    subst (λ (n : ℕ). HasItsNumber 0 (sent_behind packets (packets_sent entries)) n (packet_of carried.packet)) same
     (number_kept packets (reverse (packets_sent entries)) carried.number (packet_of carried.packet) is)
 
 -- what is carried at a place
-pub carried_here : (packets : List Packet) (entries : List Entry) (all : List Carried) (place number : ℕ) (one : Carried) →
-    ((other : Carried) → In other all → IsCarried packets other) → true ≡ nat_lt place (length all) → one ≡ get_or all place one → one.number ≡ number →
-    HasPacket packets entries number (packet_of one.packet)
-carried_here packets entries all place number one each within is same =
-    carried_has packets entries one number
-    (each one (at_place all place one (slice_get_read all (length all) place one refl (grind (arith, nat_tests, within)) is))) same
+pub carried_here : (numbers : Numbers) (entries : List Entry) (all : List Carried) (place number : ℕ) (one : Carried) →
+    ((other : Carried) → In other all → In other numbers.may_come) → true ≡ nat_lt place (length all) → one ≡ get_or all place one → one.number ≡ number →
+    HasPacket numbers entries number (packet_of one.packet)
+carried_here numbers entries all place number one each within is same = λ packets have.
+    let among = at_place all place one (slice_get_read all (length all) place one refl (grind (arith, nat_tests, within)) is) in
+    carried_has packets entries one number (have.come one (each one among)) same
 
 -- what an entry at a place sent
-pub sent_here : (noted : List Noted) (packets : List Packet) (sent place number : ℕ) (one : Noted) (found : Option (Bor Sent)) →
-    AreNumbered (length packets) noted sent → ((entry : Entry) → In entry (entries_of noted) → IsSound entry) → true ≡ nat_lt place (length noted) →
+pub sent_here : (noted : List Noted) (numbers : Numbers) (sent place number : ℕ) (one : Noted) (found : Option (Bor Sent)) →
+    AreNumbered numbers.count noted sent → ((entry : Entry) → In entry (entries_of noted) → IsSound entry) → true ≡ nat_lt place (length noted) →
     one ≡ get_or noted place one → IfSome (option_copied found) (IsNumberedIn one number) →
-    IfSome (option_copied found) (λ packet. HasPacket packets (entries_of noted) number (packet_of packet))
-sent_here noted packets sent place number one None are sound within is here = record {}
-sent_here noted packets sent place number one (Some packet) are sound within is here =
-    numbered noted packets sent place number one packet.now are sound
+    IfSome (option_copied found) (λ packet. HasPacket numbers (entries_of noted) number (packet_of packet))
+sent_here noted numbers sent place number one None are sound within is here = record {}
+sent_here noted numbers sent place number one (Some packet) are sound within is here = λ packets have.
+    numbered noted packets sent place number one packet.now (subst (λ (n : ℕ). AreNumbered n noted sent) (sym have.count) are) sound
     (slice_get_read noted (length noted) place one refl (grind (arith, nat_tests, within)) is) here
 
 -- ---- one entry more
@@ -186,27 +187,28 @@ came_by packets done (Some save) names from = (
 )
 
 -- What an entry has that comes behind others was sent by them, or has its number from before.
-pub came_more : (packets : List Packet) (entries : List Entry) (entry : Entry) → IsSound entry → CameFrom packets entries entry →
-    WereSent 0 packets (done_in entries) → WereSent 0 packets (done_in (entries ++ entry ∷ []))
-came_more packets entries entry sound came were =
+came_more : (numbers : Numbers) (packets : List Packet) (entries : List Entry) (entry : Entry) → HaveNumbers numbers packets → IsSound entry →
+    CameFrom numbers entries entry → WereSent 0 packets (done_in entries) → WereSent 0 packets (done_in (entries ++ entry ∷ []))
+came_more numbers packets entries entry have sound came were =
     subst (λ (ds : List Done). WereSent 0 packets ds) (sym (done_both entries (entry ∷ [])))
     (sent_both 0 packets (done_in entries) (done_in (entry ∷ [])) were
     (subst (λ (ds : List Done). WereSent 0 (reverse (packets_sent entries) ++ packets) ds) (sym (append-nil (steps_for entry.done entry.unfinished)))
-    (came_by (reverse (packets_sent entries) ++ packets) entry.done entry.unfinished sound came)))
+    (came_by (reverse (packets_sent entries) ++ packets) entry.done entry.unfinished sound
+    (λ number packet at is. came number packet at is packets have))))
 
 entries_more : (noted : List Noted) (one : Noted) → entries_of (noted ++ one ∷ []) ≡ entries_of noted ++ entry_of one.entry ∷ []
 entries_more noted one = map-append (λ (n : Noted). entry_of n.entry) noted (one ∷ [])
 
-pub register_more : (cluster : Cluster) (packets : List Packet) (noted : List Noted) (carried : List Carried) (sent : ℕ) (one : Noted) →
-    IsRegister cluster packets noted carried sent → IsInRange cluster (node_at (entry_of one.entry).done.step) → IsSound (entry_of one.entry) →
-    CameFrom packets (entries_of noted) (entry_of one.entry) → one.before ≡ sent →
-    IsRegister cluster packets (noted ++ one ∷ []) carried (sent + count_in one)
-register_more cluster packets noted carried sent one is within sound came begins = record {
+pub register_more : (cluster : Cluster) (numbers : Numbers) (noted : List Noted) (carried : List Carried) (sent : ℕ) (one : Noted) →
+    IsRegister cluster numbers noted carried sent → IsInRange cluster (node_at (entry_of one.entry).done.step) → IsSound (entry_of one.entry) →
+    CameFrom numbers (entries_of noted) (entry_of one.entry) → one.before ≡ sent →
+    IsRegister cluster numbers (noted ++ one ∷ []) carried (sent + count_in one)
+register_more cluster numbers noted carried sent one is within sound came begins = record {
   nodes = λ entry among. elim (in_more entry among) [ inl here ↦ is.nodes entry here | inr last ↦ at_last within entry last ];
   sound = λ entry among. elim (in_more entry among) [ inl here ↦ is.sound entry here | inr last ↦ sound_last sound entry last ];
-  came = subst (λ (es : List Entry). WereSent 0 packets (done_in es)) (sym (entries_more noted one))
-      (came_more packets (entries_of noted) (entry_of one.entry) sound came is.came);
-  numbered = numbered_more (length packets) noted sent one is.numbered begins;
+  came = λ packets have. subst (λ (es : List Entry). WereSent 0 packets (done_in es)) (sym (entries_more noted one))
+      (came_more numbers packets (entries_of noted) (entry_of one.entry) have sound came (is.came packets have));
+  numbered = numbered_more numbers.count noted sent one is.numbered begins;
   carries = is.carries;
 }
   where

@@ -11,6 +11,7 @@ use Rattle.mc_model.specs.synod.Packet.{Packet}
 use Rattle.journal_laws.specs.Journals.{Entry, packets_sent}
 use Rattle.journal_parts.specs.declared.noted.Noted.{Noted}
 use Rattle.journal_parts.specs.Entries.{IsSound, entry_of}
+use Rattle.journal_parts.specs.Numbers.{Numbers}
 use Rattle.journal_parts.specs.Registers.{AreNumbered, IsUnsent, count_in, entries_of}
 use Rattle.journal_parts.proofs.Numbers.{sent_first}
 
@@ -93,39 +94,39 @@ AreBehind noted behind number =
     (place : ℕ) (other : Noted) → behind ≤ place → place < length noted → nat_lt (get_or noted place other).before number ≡ false
 
 -- the number is not above those of before the first entry
-pub unsent_first : (noted : List Noted) (packets : List Packet) (sent number : ℕ) → AreNumbered (length packets) noted sent →
-    AreBehind noted 0 number → IsUnsent packets (entries_of noted) number
-unsent_first [] packets sent number are behind = λ above. omega (arith, above)
-unsent_first (first ∷ later) packets sent number are behind = λ above.
+pub unsent_first : (noted : List Noted) (numbers : Numbers) (sent number : ℕ) → AreNumbered numbers.count noted sent →
+    AreBehind noted 0 number → IsUnsent numbers (entries_of noted) number
+unsent_first [] numbers sent number are behind = λ above. omega (arith, above)
+unsent_first (first ∷ later) numbers sent number are behind = λ above.
     let at : nat_lt first.before number ≡ false = behind 0 first (omega arith) (omega arith) in
     absurd (grind (arith, nat_tests, at, above, are.0))
 
 -- the last entry that begins below it did not send it
-pub unsent_behind : (noted : List Noted) (packets : List Packet) (sent place number : ℕ) (one : Noted) → AreNumbered (length packets) noted sent →
+pub unsent_behind : (noted : List Noted) (numbers : Numbers) (sent place number : ℕ) (one : Noted) → AreNumbered numbers.count noted sent →
     AreSound noted → place < length noted → one ≡ get_or noted place one → one.before + count_in one < number → AreBehind noted (place + 1) number →
-    IsUnsent packets (entries_of noted) number
-unsent_behind noted packets sent place number one are sound within is above behind = λ _. elim (cases_lt (place + 1) (length noted)) [
+    IsUnsent numbers (entries_of noted) number
+unsent_behind noted numbers sent place number one are sound within is above behind = λ _. elim (cases_lt (place + 1) (length noted)) [
   | inl more ↦
-      let begins = next (length packets) noted sent are place (place + 1) one refl more in
+      let begins = next numbers.count noted sent are place (place + 1) one refl more in
       let before = ap (λ (n : Noted). n.before + count_in n) is in
       let at : nat_lt (get_or noted (place + 1) one).before number ≡ false = behind (place + 1) one (omega arith) more in
       absurd (grind (arith, nat_tests, at, above, before, begins))
   | inr same ↦
-      let ends = last (length packets) noted sent are place one (omega (arith, same, within)) in
-      let count = sent_count (length packets) noted sent are sound in
+      let ends = last numbers.count noted sent are place one (omega (arith, same, within)) in
+      let count = sent_count numbers.count noted sent are sound in
       let before = ap (λ (n : Noted). n.before + count_in n) is in
       omega (arith, ends, count, before, above)
 ]
 
 -- So it is said of what was found.
-pub unsent_here : {X : Type 0} (noted all : List Noted) (packets : List Packet) (sent place behind number : ℕ) (one : Noted) (found : Option X) →
-    AreNumbered (length packets) noted sent → AreSound noted → all ≡ noted → IsPoint all number behind → behind ≡ place + 1 → place < length noted →
+pub unsent_here : {X : Type 0} (noted all : List Noted) (numbers : Numbers) (sent place behind number : ℕ) (one : Noted) (found : Option X) →
+    AreNumbered numbers.count noted sent → AreSound noted → all ≡ noted → IsPoint all number behind → behind ≡ place + 1 → place < length noted →
     one ≡ get_or noted place one → IfNone found (one.before < number → one.before + count_in one < number) →
-    IfNone found (IsUnsent packets (entries_of noted) number)
-unsent_here noted all packets sent place behind number one (Some x) are sound same point at within is here = record {}
-unsent_here noted all packets sent place behind number one None are sound same point at within is here =
+    IfNone found (IsUnsent numbers (entries_of noted) number)
+unsent_here noted all numbers sent place behind number one (Some x) are sound same point at within is here = record {}
+unsent_here noted all numbers sent place behind number one None are sound same point at within is here =
     let here_too : IsPoint noted number (place + 1) =
     subst (λ (b : ℕ). IsPoint noted number b) at (subst (λ (ns : List Noted). IsPoint ns number behind) same point) in
     let below : nat_lt (get_or noted place one).before number ≡ true = here_too.0 place one (omega arith) (omega arith) in
     let before = ap (λ (n : Noted). n.before) is in
-    unsent_behind noted packets sent place number one are sound within is (here (grind (arith, nat_tests, below, before))) here_too.1
+    unsent_behind noted numbers sent place number one are sound within is (here (grind (arith, nat_tests, below, before))) here_too.1

@@ -13,6 +13,7 @@ use Rattle.journal_laws.specs.Parts.{IsPart, LeadTo}
 use Rattle.journal_parts.specs.declared.carried.Carried.{Carried}
 use Rattle.journal_parts.specs.declared.noted.Noted.{Noted}
 use Rattle.journal_parts.specs.Members.{Posted, packet_halted}
+use Rattle.journal_parts.specs.Numbers.{HaveNumbers, Numbers}
 use Rattle.journal_parts.specs.Registers.{IsRegister, entries_of}
 use Rattle.journal_parts.specs.Slips.{Seated, Slipped}
 
@@ -76,18 +77,19 @@ entries_in closed = entries_of closed.noted
 abbrev pub AreSure : {S : Type 0} → (S → Stored) → List (Posted S) → Type 0
 AreSure {S} stored posts = (post : Posted S) → In post posts → (stored post.node.store).doubt ≡ 0
 
--- Behind this, a journal is closed: each node of the cluster is there at its place, and the entries are a part of a journal, which leads to what each node
--- keeps that is not astray.
-pub record IsClosed {S : Type 0} (stored : S → Stored) (cluster : Cluster) (kept : ℕ → Kept) (packets : List Packet) (closed : Closed S) : Type 0 where
-  pub register : IsRegister cluster packets closed.noted closed.carried closed.sent
+-- Behind this, a journal is closed: each node of the cluster is there at its place, and the entries are a part of a journal, whichever packets have numbers
+-- where it begins, and lead to what each node keeps that is not astray.
+pub record IsClosed {S : Type 0} (stored : S → Stored) (cluster : Cluster) (kept : ℕ → Kept) (numbers : Numbers) (closed : Closed S) : Type 0 where
+  pub register : IsRegister cluster numbers closed.noted closed.carried closed.sent
   pub count : length closed.posts ≡ cluster.nodes
   pub setups : (place : ℕ) (post : Posted S) → slice_get closed.posts place ≡ Some post → post.node.kept.setup ≡ setup_of cluster (place + 1)
   pub halts : (post : Posted S) → In post closed.posts → post.node.unfinished ≡ packet_halted post.halted
   pub ends : ℕ → Kept
-  pub part : AreSure stored closed.posts → IsPart cluster kept packets (entries_in closed) ends
+  pub part : AreSure stored closed.posts → (packets : List Packet) → HaveNumbers numbers packets → IsPart cluster kept packets (entries_in closed) ends
   pub lasts : (post : Posted S) → In post closed.posts → post.astray ≡ false → ends post.node.kept.setup.node ≡ kept_of post.node.kept
 
 -- Unless a disk returned what nobody wrote, this is so behind each run that leads to where the journal begins.
-abbrev pub Behind : {S : Type 0} → (S → Stored) → Cluster → (ℕ → Kept) → List Packet → Closed S → (List Packet → List NodeInput → Type 0) → Type 0
-Behind stored cluster kept packets closed so =
-    AreSure stored closed.posts → (behind : List Packet) (inputs : List NodeInput) → LeadTo cluster behind inputs kept packets → so behind inputs
+abbrev pub Behind : {S : Type 0} → (S → Stored) → Cluster → (ℕ → Kept) → Numbers → Closed S → (List Packet → List NodeInput → Type 0) → Type 0
+Behind stored cluster kept numbers closed so =
+    AreSure stored closed.posts → (packets : List Packet) → HaveNumbers numbers packets → (behind : List Packet) (inputs : List NodeInput) →
+    LeadTo cluster behind inputs kept packets → so behind inputs

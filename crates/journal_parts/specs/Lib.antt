@@ -3,6 +3,7 @@ pub mod Refusals
 pub mod Faults
 pub mod Entries
 pub mod Slips
+pub mod Numbers
 pub mod Marks
 pub mod Registers
 pub mod Members

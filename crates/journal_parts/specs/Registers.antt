@@ -12,6 +12,7 @@ use Rattle.journal_laws.specs.Journals.{Entry, HasItsNumber, IsInRange, WereSent
 use Rattle.journal_parts.specs.declared.noted.Noted.{Noted}
 use Rattle.journal_parts.specs.declared.carried.Carried.{Carried}
 use Rattle.journal_parts.specs.Entries.{IsSound, entry_of, number_by, number_in}
+use Rattle.journal_parts.specs.Numbers.{HaveNumbers, Numbers}
 use Rattle.journal_parts.specs.Slips.{Slipped}
 
 -- the entries of a journal, the oldest first; for how many more there is room, and how much of it is claimed; and how many seats are left
@@ -39,41 +40,38 @@ AreNumbered before (noted ∷ later) sent = (noted.before ≡ before) × AreNumb
 abbrev pub entries_of : List Noted → List Entry
 entries_of noted = map (λ one. entry_of one.entry) noted
 
--- a packet of an earlier part that still has its number
-abbrev pub IsCarried : List Packet → Carried → Type 0
-IsCarried packets carried = HasItsNumber 0 packets carried.number (packet_of carried.packet)
-
--- From these numbered packets on, the newest first: each entry is of a node of the cluster, and each packet that comes is the one with its number.
-pub record IsRegister (cluster : Cluster) (packets : List Packet) (noted : List Noted) (carried : List Carried) (sent : ℕ) : Type 0 where
+-- From these numbers on: each entry is of a node of the cluster, and each packet that comes is the one with its number, whichever packets have them.
+pub record IsRegister (cluster : Cluster) (numbers : Numbers) (noted : List Noted) (carried : List Carried) (sent : ℕ) : Type 0 where
   pub nodes : (entry : Entry) → In entry (entries_of noted) → IsInRange cluster (node_at entry.done.step)
   pub sound : (entry : Entry) → In entry (entries_of noted) → IsSound entry
-  pub came : WereSent 0 packets (done_in (entries_of noted))
-  pub numbered : AreNumbered (length packets) noted sent
-  pub carries : (one : Carried) → In one carried → IsCarried packets one
+  pub came : (packets : List Packet) → HaveNumbers numbers packets → WereSent 0 packets (done_in (entries_of noted))
+  pub numbered : AreNumbered numbers.count noted sent
+  pub carries : (one : Carried) → In one carried → In one numbers.may_come
 
 -- ---- from one entry to the next
 
--- the packet that has this number behind these entries
-abbrev pub HasPacket : List Packet → List Entry → ℕ → Packet → Type 0
-HasPacket packets entries number packet = HasItsNumber 0 (reverse (packets_sent entries) ++ packets) number packet
+-- the packet that has this number behind these entries, whichever packets have those of before
+abbrev pub HasPacket : Numbers → List Entry → ℕ → Packet → Type 0
+HasPacket numbers entries number packet =
+    (packets : List Packet) → HaveNumbers numbers packets → HasItsNumber 0 (reverse (packets_sent entries) ++ packets) number packet
 
 -- so is the one that comes by an entry
-abbrev pub CameFrom : List Packet → List Entry → Entry → Type 0
-CameFrom packets entries entry =
-    (number : ℕ) (packet : Packet) → number_in entry ≡ Some number → entry.done.packet ≡ Some packet → HasPacket packets entries number packet
+abbrev pub CameFrom : Numbers → List Entry → Entry → Type 0
+CameFrom numbers entries entry =
+    (number : ℕ) (packet : Packet) → number_in entry ≡ Some number → entry.done.packet ≡ Some packet → HasPacket numbers entries number packet
 
 -- no packet that these entries sent has this number: it is one of before, or behind them all
-abbrev pub IsUnsent : List Packet → List Entry → ℕ → Type 0
-IsUnsent packets entries number = length packets < number → length packets + length (packets_sent entries) < number
+abbrev pub IsUnsent : Numbers → List Entry → ℕ → Type 0
+IsUnsent numbers entries number = numbers.count < number → numbers.count + length (packets_sent entries) < number
 
 -- what is given for a step is the packet with the number that it asks for
-abbrev pub IsAskedFor : List Packet → List Entry → Step → Option Sent → Type 0
-IsAskedFor packets entries step given =
-    (number : ℕ) (packet : Sent) → number_by step ≡ Some number → given ≡ Some packet → HasPacket packets entries number (packet_of packet)
+abbrev pub IsAskedFor : Numbers → List Entry → Step → Option Sent → Type 0
+IsAskedFor numbers entries step given =
+    (number : ℕ) (packet : Sent) → number_by step ≡ Some number → given ≡ Some packet → HasPacket numbers entries number (packet_of packet)
 
 -- a step asks for a packet, and these entries sent none under its number
-abbrev pub AsksInVain : List Packet → List Entry → Step → Type 0
-AsksInVain packets entries step = (number : ℕ) × (number_by step ≡ Some number) × IsUnsent packets entries number
+abbrev pub AsksInVain : Numbers → List Entry → Step → Type 0
+AsksInVain numbers entries step = (number : ℕ) × (number_by step ≡ Some number) × IsUnsent numbers entries number
 
 -- the entry is the last one, and the slip has its number
 pub record HasEntered (old : List Entry) (entry : Entry) (new : List Entry) (slip : Slipped) : Type 0 where

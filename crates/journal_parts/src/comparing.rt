@@ -33,7 +33,7 @@ impl<L: Begins> Register<L> {
 
     /// Whether a slip stands in the journal: it has the number of the entry that it is of, and those of its packets. It takes no memory.
     fn has_slip(&self, slip: &Slip) -> bool
-        ensures { IsTrue result → StandsAt (length L.packets) self.now.entries slip.now }
+        ensures { IsTrue result → StandsAt L.numbers.count self.now.entries slip.now }
     {
         let Some(place) = slip.number().checked_sub(1) else {
             return false;
@@ -46,7 +46,7 @@ impl<L: Begins> Register<L> {
 
     /// Whether the slips of a seat stand in the journal, and their numbers rise. It takes no memory.
     fn has_slips(&self, slips: &[Slip]) -> bool
-        ensures { IsTrue result → StandAbove 0 (length L.packets) self.now.entries slips.now }
+        ensures { IsTrue result → StandAbove 0 L.numbers.count self.now.entries slips.now }
     {
         let mut last = 0;
         for slip in slips {
@@ -60,7 +60,7 @@ impl<L: Begins> Register<L> {
 
     /// Whether the slips of all seats stand in the journal, and the numbers of each seat rise. It takes no memory.
     pub fn has_seats(&self, seats: &[Seat<L>]) -> bool
-        ensures { IsTrue result → AllStand (length L.packets) self.now.entries seats.now }
+        ensures { IsTrue result → AllStand L.numbers.count self.now.entries seats.now }
     {
         for seat in seats {
             if !self.has_slips(seat.slips()) {

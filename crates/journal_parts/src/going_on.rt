@@ -1,13 +1,9 @@
 //! A journal that goes on with another part of the same run.
 
-ghost use Rattle.std.specs.Prelude.{◌≡◌, ◌↔◌, ◌≤◌, ℕ, List, IfOk, IsTrue, OnOk, length, map};
-ghost use Rattle.mc_model.specs.cluster.Steps.{Cluster};
-ghost use Rattle.mc_model.specs.synod.Lists.{In};
-ghost use Rattle.mc_model.specs.synod.Packet.{Packet as Numbered};
-ghost use Rattle.journal_parts.specs.GoingOn.{AreAdded, AreSound, BothAreOne, ClosedOnesGoOn, IsAgain, IsOf, IsOfAny, numbered_behind};
+ghost use Rattle.std.specs.Prelude.{◌≡◌, ◌↔◌, ◌++◌, IfOk, IsTrue, OnOk, length, map};
+ghost use Rattle.journal_parts.specs.GoingOn.{AreSound, BothAreOne, ClosedOnesGoOn, numbers_behind};
 ghost use Rattle.journal_parts.specs.Members.{posted};
-ghost use Rattle.journal_parts.specs.Registers.{IsCarried, IsRegister};
-ghost use Rattle.journal_parts.specs.declared.carried.Carried.{Carried as Again};
+ghost use Rattle.journal_parts.specs.Numbers.{all_from, all_sent_by, sent_by};
 
 use crate::carried::Carried;
 use crate::journal::Journal;
@@ -31,13 +27,10 @@ impl<S: StableStore> Journal<S> {
         are_sound(self.posts.as_slice())
     }
 
-    /// The packets with this number or a higher one that may still come in another part, under their numbers: those that were carried before, and those of
-    /// the entries. An `Err` is want of memory.
+    /// All packets with this number or a higher one that may still come in another part, under their numbers: those that were carried before, and those of the
+    /// entries. An `Err` is want of memory.
     pub fn carried_from(&self, alloc: Global, from: u64) -> Result<Vec<Carried>, AllocError>
-        ensures each { IfOk result (λ carried. (cluster : Cluster) (packets : List Numbered) →
-            IsRegister cluster packets self.now.noted self.now.carried self.now.sent →
-            (one : Again) → In one carried.items → IsCarried (numbered_behind self.now packets) one) }
-        ensures from { IfOk result (λ carried. (one : Again) → In one carried.items → from ≤ one.number) }
+        ensures { IfOk result (λ carried. carried.items ≡ all_from from (numbers_behind self.now).may_come) }
     {
         let mut into = Vec::new(alloc);
         carry_again(self.carried.as_slice(), from, &mut into)?;
@@ -73,7 +66,7 @@ fn are_sound<S: StableStore>(posts: &[Post<S>]) -> bool
 
 /// Adds those of earlier parts with this number or a higher one. An `Err` is want of memory.
 fn carry_again(carried: &[Carried], from: u64, into: &mut Vec<Carried>) -> Result<(), AllocError>
-    ensures { OnOk result (AreAdded into.old.items (IsAgain from carried.now) into.new.items) }
+    ensures { OnOk result (into.new.items ≡ into.old.items ++ all_from from carried.now) }
 {
     for one in carried {
         if one.number >= from {
@@ -88,7 +81,7 @@ fn carry_again(carried: &[Carried], from: u64, into: &mut Vec<Carried>) -> Resul
 
 /// Adds those of the entries. An `Err` is want of memory.
 fn carry_sent(noted: &[Noted], from: u64, into: &mut Vec<Carried>) -> Result<(), AllocError>
-    ensures { OnOk result (AreAdded into.old.items (IsOfAny from noted.now) into.new.items) }
+    ensures { OnOk result (into.new.items ≡ into.old.items ++ all_from from (all_sent_by noted.now)) }
 {
     for entry in noted {
         carry_own(entry, from, into)?;
@@ -98,13 +91,11 @@ fn carry_sent(noted: &[Noted], from: u64, into: &mut Vec<Carried>) -> Result<(),
 
 /// Adds those of an entry. An `Err` is want of memory.
 fn carry_own(noted: &Noted, from: u64, into: &mut Vec<Carried>) -> Result<(), AllocError>
-    ensures { OnOk result (AreAdded into.old.items (IsOf from noted.now) into.new.items) }
+    ensures { OnOk result (into.new.items ≡ into.old.items ++ all_from from (sent_by noted.now)) }
 {
-    let packets = noted.entry.done.outputs.packets.as_slice();
-    for (place, packet) in packets.iter().enumerate() {
-        let Some(number) = noted.before.checked_add(place as u64 + 1) else {
-            break;
-        };
+    let mut number = noted.before;
+    for packet in noted.entry.done.outputs.packets.as_slice() {
+        number += 1;
         if number >= from {
             let packet = packet.copy()?;
             into.push(Carried { number, packet })?;

@@ -69,7 +69,7 @@ impl<L: Begins> Register<L> {
     pub fn close<S: StableStore>(self, posts: Vec<Post<S>>) -> Journal<S>
         requires count { length posts.items ≡ L.cluster.nodes }
         requires found { AllFound S.stored L.cluster L.kept self.entries 0 (map posted posts.items) }
-        ensures closed { IsClosed S.stored L.cluster L.kept L.packets result }
+        ensures closed { IsClosed S.stored L.cluster L.kept L.numbers result }
         ensures entries { entries_in result ≡ self.entries }
         ensures posts { result.posts ≡ map posted posts.items }
     {

@@ -10,7 +10,8 @@ ghost use Rattle.world.specs.Runs.{node_at};
 ghost use Rattle.journal_laws.specs.Journals.{HasItsNumber, IsInRange};
 ghost use Rattle.journal_parts.specs.Entries.{IsSound, entry_of, number_by, number_in};
 ghost use Rattle.journal_parts.specs.Members.{CanBeTaken, IsAct};
-ghost use Rattle.journal_parts.specs.Registers.{AsksInVain, CameFrom, HasEntered, HasPacket, IsAskedFor, IsCarried, IsUnsent};
+ghost use Rattle.journal_parts.specs.Numbers.{none_sent};
+ghost use Rattle.journal_parts.specs.Registers.{AsksInVain, CameFrom, HasEntered, HasPacket, IsAskedFor, IsUnsent};
 ghost use Rattle.journal_parts.specs.declared.carried.Carried.{Carried as Again};
 ghost use Rattle.journal_parts.specs.declared.refusal.Refusal.TheVariants.{Broken, Full, Memory, NoSuchPacket};
 
@@ -68,7 +69,7 @@ impl<L: Begins> Model for Register<L> {
     } };
 
     ghost invariant = { λ r.
-        IsRegister L.cluster L.packets r.noted.items r.carried.items r.sent
+        IsRegister L.cluster L.numbers r.noted.items r.carried.items r.sent
         × (vec_len r.noted + r.claims ≤ vec_capacity r.noted)
         × (r.book.total ≡ vec_len r.noted)
         × (r.seats.parts ≡ r.seats_left)
@@ -81,7 +82,7 @@ impl<L: Begins> Register<L> {
     pub fn open(alloc: Global, blank: Blank) -> Result<Register<L>, AllocError>
         requires name { blank.name ≡ L.name }
         requires parts { (blank.parts ≡ L.parts) × (blank.parts ≡ 1000000) }
-        requires packets { L.packets ≡ [] }
+        requires numbers { L.numbers ≡ none_sent }
         ensures entries { IfOk result (λ register. register.entries ≡ []) }
         ensures claims { IfOk result (λ register. register.claims ≡ 0) }
         ensures room { IfOk result (λ register. 200000 ≤ register.room) }
@@ -99,8 +100,8 @@ impl<L: Begins> Register<L> {
     ) -> Result<Register<L>, AllocError>
         requires name { blank.name ≡ L.name }
         requires parts { (blank.parts ≡ L.parts) × (blank.parts ≡ 1000000) }
-        requires sent { length L.packets ≡ sent }
-        requires carried { (one : Again) → In one carried.items → IsCarried L.packets one }
+        requires sent { L.numbers.count ≡ sent }
+        requires carried { (one : Again) → In one carried.items → In one L.numbers.may_come }
         ensures entries { IfOk result (λ register. register.entries ≡ []) }
         ensures claims { IfOk result (λ register. register.claims ≡ 0) }
         ensures room { IfOk result (λ register. 200000 ≤ register.room) }
@@ -142,13 +143,13 @@ impl<L: Begins> Register<L> {
     pub fn admit(&mut self, step: &Step, broken: bool) -> Result<Option<Packet>, Refusal>
         requires { IsAct step.now }
         ensures packet { IfOk result (CanBeTaken step.now) }
-        ensures asked { IfOk result (IsAskedFor L.packets self.old.entries step.now) }
+        ensures asked { IfOk result (IsAskedFor L.numbers self.old.entries step.now) }
         ensures works { OnOk result (broken ≡ false) }
         ensures claims { OnOk result (self.new.claims ≡ self.old.claims + 1) }
         ensures stays { OnErr result (self.new.claims ≡ self.old.claims) }
         ensures full { IsErrOf result Full ↔ (self.old.room ≤ self.old.claims) }
         ensures broken { IsErrOf result Broken ↔ ((self.old.claims < self.old.room) × (broken ≡ true)) }
-        ensures absent { IsErrOf result NoSuchPacket → AsksInVain L.packets self.old.entries step.now }
+        ensures absent { IsErrOf result NoSuchPacket → AsksInVain L.numbers self.old.entries step.now }
         ensures wants { IsErrOf result Memory → IsSome (number_by step.now) }
         ensures faults { IfErr result (λ refusal. (refusal ≡ Full) ⊎ (refusal ≡ Broken) ⊎ (refusal ≡ NoSuchPacket) ⊎ (refusal ≡ Memory)) }
         ensures entries { self.new.entries ≡ self.old.entries }
@@ -205,8 +206,8 @@ impl<L: Begins> Register<L> {
     fn packet_by(&self, step: &Step) -> Result<Option<Packet>, Refusal>
         requires { IsAct step.now }
         ensures packet { IfOk result (CanBeTaken step.now) }
-        ensures asked { IfOk result (IsAskedFor L.packets self.now.entries step.now) }
-        ensures absent { IsErrOf result NoSuchPacket → AsksInVain L.packets self.now.entries step.now }
+        ensures asked { IfOk result (IsAskedFor L.numbers self.now.entries step.now) }
+        ensures absent { IsErrOf result NoSuchPacket → AsksInVain L.numbers self.now.entries step.now }
         ensures wants { IsErrOf result Memory → IsSome (number_by step.now) }
         ensures faults { IfErr result (λ refusal. (refusal ≡ NoSuchPacket) ⊎ (refusal ≡ Memory)) }
     {
@@ -231,8 +232,8 @@ impl<L: Begins> Register<L> {
 
     /// The packet with this number, if one has it: one that an entry sent, or one of an earlier part that may still come.
     pub fn packet(&self, number: u64) -> Option<&Packet>
-        ensures some { IfSome (option_copied result) (λ packet. HasPacket L.packets self.now.entries number (packet_of packet)) }
-        ensures none { IfNone result (IsUnsent L.packets self.now.entries number) }
+        ensures some { IfSome (option_copied result) (λ packet. HasPacket L.numbers self.now.entries number (packet_of packet)) }
+        ensures none { IfNone result (IsUnsent L.numbers self.now.entries number) }
     {
         match self.carried_packet(number) {
             Some(packet) => Some(packet),
@@ -242,7 +243,7 @@ impl<L: Begins> Register<L> {
 
     /// One of an earlier part that may still come.
     fn carried_packet(&self, number: u64) -> Option<&Packet>
-        ensures { IfSome (option_copied result) (λ packet. HasPacket L.packets self.now.entries number (packet_of packet)) }
+        ensures { IfSome (option_copied result) (λ packet. HasPacket L.numbers self.now.entries number (packet_of packet)) }
     {
         let place = self
             .carried
@@ -257,8 +258,8 @@ impl<L: Begins> Register<L> {
 
     /// One that an entry sent. None exactly if none of them has the number.
     fn sent_packet(&self, number: u64) -> Option<&Packet>
-        ensures some { IfSome (option_copied result) (λ packet. HasPacket L.packets self.now.entries number (packet_of packet)) }
-        ensures none { IfNone result (IsUnsent L.packets self.now.entries number) }
+        ensures some { IfSome (option_copied result) (λ packet. HasPacket L.numbers self.now.entries number (packet_of packet)) }
+        ensures none { IfNone result (IsUnsent L.numbers self.now.entries number) }
     {
         let behind = self
             .noted
@@ -270,7 +271,7 @@ impl<L: Begins> Register<L> {
 
     /// Whether the packet that comes by an entry, if one does, is the one that was sent under its number.
     fn has_sent(&self, entry: &Entry) -> bool
-        ensures sent { IsTrue result → CameFrom L.packets self.now.entries (entry_of entry.now) }
+        ensures sent { IsTrue result → CameFrom L.numbers self.now.entries (entry_of entry.now) }
         ensures none { number_in (entry_of entry.now) ≡ None → result ≡ true }
     {
         let (Some(number), Some(packet)) = (entry.number(), &entry.done.packet) else {

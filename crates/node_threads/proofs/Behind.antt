@@ -9,9 +9,10 @@ use Rattle.journal_laws.specs.Journals.{IsJournal}
 use Rattle.journal_laws.specs.Parts.{LeadTo}
 use Rattle.journal_laws.proofs.Parts.{journal_of_part}
 use Rattle.journal_parts.specs.Closing.{AreSure, Closed, IsClosed, entries_in}
+use Rattle.journal_parts.specs.Numbers.{HaveNumbers, Numbers}
 
-pub behind : {S : Type 0} (stored : S → Stored) (cluster : Cluster) (kept : ℕ → Kept) (packets : List Packet) (closed : Closed S) →
-    (is : IsClosed stored cluster kept packets closed) → AreSure stored closed.posts → (before : List Packet) (inputs : List NodeInput) →
-    LeadTo cluster before inputs kept packets → IsJournal cluster before inputs (entries_in closed) is.ends
-behind stored cluster kept packets closed is sure before inputs lead =
-    journal_of_part cluster before inputs kept packets (entries_in closed) is.ends lead (is.part sure)
+pub behind : {S : Type 0} (stored : S → Stored) (cluster : Cluster) (kept : ℕ → Kept) (numbers : Numbers) (closed : Closed S) →
+    (is : IsClosed stored cluster kept numbers closed) → AreSure stored closed.posts → (packets : List Packet) → HaveNumbers numbers packets →
+    (before : List Packet) (inputs : List NodeInput) → LeadTo cluster before inputs kept packets → IsJournal cluster before inputs (entries_in closed) is.ends
+behind stored cluster kept numbers closed is sure packets have before inputs lead =
+    journal_of_part cluster before inputs kept packets (entries_in closed) is.ends lead (is.part sure packets have)

@@ -44,23 +44,23 @@ impl<S: StableStore + Drop, L: Begins> Cluster<S, L> {
     /// Missing comes if the numbers of the slips are not those of the entries, each once, and Differs else if the comparison fails. Then the cluster and the
     /// seats come back. No clause says that seats of this cluster never meet Differs: tests do, of answers that were not Full.
     pub fn close(self, seats: Vec<Seat<L>>) -> Result<Journal<S>, SeatsOut<S, L>>
-        ensures closed { IfOk result (λ journal. IsClosed S.stored L.cluster L.kept L.packets journal) }
+        ensures closed { IfOk result (λ journal. IsClosed S.stored L.cluster L.kept L.numbers journal) }
         ensures each { IfOk result (λ journal. EachOnce (length (entries_in journal)) seats.items) }
-        ensures stand { IfOk result (λ journal. AllStand (length L.packets) (entries_in journal) seats.items) }
-        ensures fate { IfOk result (λ journal. Behind S.stored L.cluster L.kept L.packets journal (λ behind inputs. TellOneFate (entries_in journal))) }
-        ensures grants { IfOk result (λ journal. Behind S.stored L.cluster L.kept L.packets journal
+        ensures stand { IfOk result (λ journal. AllStand L.numbers.count (entries_in journal) seats.items) }
+        ensures fate { IfOk result (λ journal. Behind S.stored L.cluster L.kept L.numbers journal (λ behind inputs. TellOneFate (entries_in journal))) }
+        ensures grants { IfOk result (λ journal. Behind S.stored L.cluster L.kept L.numbers journal
             (λ behind inputs. GrantNoneAfterAFate (entries_in journal))) }
-        ensures chosen { IfOk result (λ journal. Behind S.stored L.cluster L.kept L.packets journal
+        ensures chosen { IfOk result (λ journal. Behind S.stored L.cluster L.kept L.numbers journal
             (λ behind inputs. AreChosen L.cluster.nodes (kept_reached L.cluster inputs).packets (entries_in journal))) }
-        ensures deliveries { IfOk result (λ journal. Behind S.stored L.cluster L.kept L.packets journal
+        ensures deliveries { IfOk result (λ journal. Behind S.stored L.cluster L.kept L.numbers journal
             (λ behind inputs. DeliveriesStandInTheRun L.cluster behind inputs (entries_in journal))) }
-        ensures deliveries_here { IfOk result (λ journal. Behind S.stored L.cluster L.kept L.packets journal
+        ensures deliveries_here { IfOk result (λ journal. Behind S.stored L.cluster L.kept L.numbers journal
             (λ behind inputs. inputs ≡ [] → DeliveriesStand (entries_in journal))) }
-        ensures queries { IfOk result (λ journal. Behind S.stored L.cluster L.kept L.packets journal
+        ensures queries { IfOk result (λ journal. Behind S.stored L.cluster L.kept L.numbers journal
             (λ behind inputs. LaterQueriesAreTold (entries_in journal))) }
-        ensures accepted { IfOk result (λ journal. Behind S.stored L.cluster L.kept L.packets journal
+        ensures accepted { IfOk result (λ journal. Behind S.stored L.cluster L.kept L.numbers journal
             (λ behind inputs. AcceptedAreKnown (entries_in journal))) }
-        ensures at_once { IfOk result (λ journal. Behind S.stored L.cluster L.kept L.packets journal
+        ensures at_once { IfOk result (λ journal. Behind S.stored L.cluster L.kept L.numbers journal
             (λ behind inputs. IdsAreNotRefusedAtOnce (entries_in journal))) }
         ensures seats { IfErr result (λ out. out.seats.items ≡ seats.items) }
     {

@@ -4,6 +4,7 @@ ghost use Rattle.std.specs.Prelude.{◌≡◌, ◌≤◌, ◌∷◌, ◌++◌, [
 ghost use Rattle.std.specs.Vec.{vec_capacity, vec_len};
 ghost use Rattle.world.specs.declared.step.Step.TheVariants as steps;
 ghost use Rattle.journal_parts.specs.Entries.{number_by};
+ghost use Rattle.journal_parts.specs.Numbers.{none_sent};
 ghost use Rattle.journal_parts.specs.declared.refusal.Refusal.TheVariants.{Broken, Damaged, Device, Full, Memory};
 ghost use Rattle.journal_parts.specs.declared.refusal.Refusal.TheVariants.{NoSeat, NoSuchNode, NoSuchPacket, NotGranted, Spent, StrangeLife};
 ghost use Rattle.node_threads.specs.Actions.{AllBegin, step_of};
@@ -56,7 +57,7 @@ impl<S: StableStore + Drop, L: Begins> Cluster<S, L> {
     ) -> Result<Cluster<S, L>, AllocError>
         requires name { blank.name ≡ L.name }
         requires parts { (blank.parts ≡ L.parts) × (blank.parts ≡ 1000000) }
-        requires packets { L.packets ≡ [] }
+        requires numbers { L.numbers ≡ none_sent }
         requires begin { AllBegin L.cluster L.kept nodes.items }
         requires count { length nodes.items ≡ L.cluster.nodes }
     {

@@ -26,7 +26,7 @@ impl<S: StableStore + Drop, L: Begins> Cluster<S, L> {
     ) -> Result<Cluster<S, L>, Journal<S>>
         requires name { blank.name ≡ L.name }
         requires parts { (blank.parts ≡ L.parts) × (blank.parts ≡ 1000000) }
-        requires goes { GoesOn S.stored L.cluster L.kept L.packets journal }
+        requires goes { GoesOn S.stored L.cluster L.kept L.numbers journal }
         ensures { IfErr result (λ back. back ≡ journal) }
     {
         match Empty::make(alloc, blank, &journal, from) {
@@ -59,7 +59,7 @@ impl<S: StableStore + Drop, L: Begins> Empty<S, L> {
     ) -> Result<Empty<S, L>, AllocError>
         requires name { blank.name ≡ L.name }
         requires parts { (blank.parts ≡ L.parts) × (blank.parts ≡ 1000000) }
-        requires goes { GoesOn S.stored L.cluster L.kept L.packets journal.now }
+        requires goes { GoesOn S.stored L.cluster L.kept L.numbers journal.now }
     {
         let nodes = journal.nodes();
         let carried = journal.carried_from(alloc, from)?;

@@ -79,7 +79,7 @@ impl<S: StableStore + Drop, L: Begins> Opened<S, L> {
     /// of the slips are not those of the entries, each once. It takes no memory.
     pub(crate) fn judge(&mut self, seats: &[Seat<L>]) -> Result<(), SeatsFault>
         ensures each { OnOk result (EachOnce (length self.old.register.entries) seats.now) }
-        ensures stand { OnOk result (AllStand (length L.packets) self.old.register.entries seats.now) }
+        ensures stand { OnOk result (AllStand L.numbers.count self.old.register.entries seats.now) }
         ensures found { OnOk result (AllFound S.stored L.cluster L.kept self.old.register.entries 0 (map (λ member. member.post) self.old.members.items)) }
         ensures missing { IsErrOf result Missing ↔ (EachOnce (length self.old.register.entries) seats.now → ⊥) }
         ensures entries { self.new.register.entries ≡ self.old.register.entries }
@@ -97,7 +97,7 @@ impl<S: StableStore + Drop, L: Begins> Opened<S, L> {
     /// What is left of the journal and of the nodes. It takes no memory.
     pub(crate) fn into_journal(self) -> Journal<S>
         requires { AllFound S.stored L.cluster L.kept self.register.entries 0 (map (λ member. member.post) self.members.items) }
-        ensures closed { IsClosed S.stored L.cluster L.kept L.packets result }
+        ensures closed { IsClosed S.stored L.cluster L.kept L.numbers result }
         ensures entries { entries_in result ≡ self.register.entries }
     {
         let Opened {

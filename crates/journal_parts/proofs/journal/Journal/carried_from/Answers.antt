@@ -1,25 +1,22 @@
-use Rattle.std.proofs.Common.{List, subst}
-use Rattle.mc_model.specs.synod.Lists.{In}
-use Rattle.mc_model.specs.synod.Packet.{Packet}
-use Rattle.mc_model.specs.cluster.Steps.{Cluster}
+use Rattle.std.proofs.Common.{◌≡◌, List, [], ◌++◌, sym, ap, ◌∙◌}
 use Rattle.journal_parts.specs.declared.carried.Carried.{Carried}
+use Rattle.journal_parts.specs.declared.noted.Noted.{Noted}
 use Rattle.journal_parts.specs.Closing.{Closed}
-use Rattle.journal_parts.specs.GoingOn.{numbered_behind}
-use Rattle.journal_parts.specs.Registers.{IsCarried, IsRegister}
-use Rattle.journal_parts.proofs.GoingOn.{added_in_all, carried_on, from_on}
+use Rattle.journal_parts.specs.GoingOn.{numbers_behind}
+use Rattle.journal_parts.specs.Numbers.{all_from, all_sent_by}
+use Rattle.journal_parts.proofs.GoingOn.{from_both}
 use Rattle.journal_parts.proofs.journal.Journal.carried_from.Goals as goal
 
-pub returns-clause-each : goal.returns-clause-each
-returns-clause-each g c =
-    subst (λ (j : Closed _). (cluster : Cluster) (packets : List Packet) → IsRegister cluster packets j.noted j.carried j.sent → (one : Carried) →
-    In one c.carry_sent.new.into.items → IsCarried (numbered_behind j packets) one) c.self.view_is
-    (λ cluster packets register one among.
-    carried_on cluster packets c.self.inside.noted.items c.self.inside.carried.items c.self.inside.sent c.args.from one register (added_in_all c.args.from c.self.inside.carried.items c.as_slice.result.now c.self.inside.noted.items c.as_slice-2.result.now c.new-into.result.items
-    c.carry_again.new.into.items c.carry_sent.new.into.items c.as_slice.ensures.value c.as_slice-2.ensures.value c.new-into.ensures.items
-    c.in_ok-carry_again.ensures c.in_ok-carry_sent.ensures one among))
-
-pub returns-clause-from : goal.returns-clause-from
-returns-clause-from g c = λ one among.
-    from_on c.args.from c.self.inside.noted.items c.self.inside.carried.items one (added_in_all c.args.from c.self.inside.carried.items c.as_slice.result.now c.self.inside.noted.items c.as_slice-2.result.now c.new-into.result.items
-    c.carry_again.new.into.items c.carry_sent.new.into.items c.as_slice.ensures.value c.as_slice-2.ensures.value c.new-into.ensures.items
-    c.in_ok-carry_again.ensures c.in_ok-carry_sent.ensures one among)
+pub returns : goal.returns
+returns g c =
+    let again = c.self.inside.carried.items in
+    let sent = all_sent_by c.self.inside.noted.items in
+    let first : c.carry_again.new.into.items ≡ all_from c.args.from again =
+    c.in_ok-carry_again.ensures
+    ∙ ap (λ (cs : List Carried). cs ++ all_from c.args.from c.as_slice.result.now) c.new-into.ensures.items
+    ∙ ap (all_from c.args.from) c.as_slice.ensures.value in
+    c.in_ok-carry_sent.ensures
+    ∙ ap (λ (cs : List Carried). cs ++ all_from c.args.from (all_sent_by c.as_slice-2.result.now)) first
+    ∙ ap (λ (ns : List Noted). all_from c.args.from again ++ all_from c.args.from (all_sent_by ns)) c.as_slice-2.ensures.value
+    ∙ from_both c.args.from again sent
+    ∙ ap (λ (j : Closed _). all_from c.args.from (numbers_behind j).may_come) c.self.view_is

@@ -12,5 +12,5 @@ returns-clause-closed g c =
     let long = map_length posted c.args.posts.items in
     let found = subst (λ (r : Registered). AllFound g.S.StableStore.stored g.L.Begins.cluster g.L.Begins.kept r.entries 0 (map posted c.args.posts.items))
     (sym c.self.view_is) c.requires.found in
-    closed g.S.StableStore.stored g.L.Begins.cluster g.L.Begins.kept g.L.Begins.packets c.self.inside.noted.items c.self.inside.carried.items
+    closed g.S.StableStore.stored g.L.Begins.cluster g.L.Begins.kept g.L.Begins.numbers c.self.inside.noted.items c.self.inside.carried.items
     c.self.inside.sent (map posted c.args.posts.items) c.self.invariant.0 (omega (arith, count, long)) found

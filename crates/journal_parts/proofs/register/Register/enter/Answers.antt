@@ -18,9 +18,9 @@ invariant_of-self g c =
     let within : IsInRange g.L.Begins.cluster (node_at (entry_of one.entry).done.step) =
     subst (λ (e : Entry). IsInRange g.L.Begins.cluster (node_at e.done.step)) (sym c.copies.view_is) c.requires.node in
     let sound : IsSound (entry_of one.entry) = subst (λ (e : Entry). IsSound e) (sym c.copies.view_is) c.requires.sound in
-    let came : CameFrom g.L.Begins.packets (entries_of c.self.inside.noted.items) (entry_of one.entry) =
-    subst (λ (v : Registered). CameFrom g.L.Begins.packets v.entries (entry_of one.entry)) (sym c.self.view_is) (c.if-not-has_sent.ensures.sent refl) in
-    let more = register_more g.L.Begins.cluster g.L.Begins.packets c.self.inside.noted.items c.self.inside.carried.items c.self.inside.sent one
+    let came : CameFrom g.L.Begins.numbers (entries_of c.self.inside.noted.items) (entry_of one.entry) =
+    subst (λ (v : Registered). CameFrom g.L.Begins.numbers v.entries (entry_of one.entry)) (sym c.self.view_is) (c.if-not-has_sent.ensures.sent refl) in
+    let more = register_more g.L.Begins.cluster g.L.Begins.numbers c.self.inside.noted.items c.self.inside.carried.items c.self.inside.sent one
     c.self.invariant.0 within sound came refl in
     let count : c.in_ok-sent.sent ≡ c.self.inside.sent + count_in one =
     let sends = length-map (arc_value c.copies.inside.journal.done).outputs.packets.items packet_of in
@@ -30,8 +30,8 @@ invariant_of-self g c =
     let len = c.len.ensures in
     omega (arith, sends, same, own, sum, len) in
     let all : c.push_reserved.new.self.items ≡ c.self.inside.noted.items ++ one ∷ [] = c.push_reserved.ensures.items in (
-      subst (λ (n : ℕ). IsRegister g.L.Begins.cluster g.L.Begins.packets c.push_reserved.new.self.items c.self.inside.carried.items n) (sym count)
-          (subst (λ (ns : List Noted). IsRegister g.L.Begins.cluster g.L.Begins.packets ns c.self.inside.carried.items (c.self.inside.sent + count_in one))
+      subst (λ (n : ℕ). IsRegister g.L.Begins.cluster g.L.Begins.numbers c.push_reserved.new.self.items c.self.inside.carried.items n) (sym count)
+          (subst (λ (ns : List Noted). IsRegister g.L.Begins.cluster g.L.Begins.numbers ns c.self.inside.carried.items (c.self.inside.sent + count_in one))
           (sym all) more),
       (let room = c.self.invariant.1 in let long = c.push_reserved.ensures.len in let wide = c.push_reserved.ensures.capacity in
           omega (arith, room, long, wide, c.if-self-eq0.false)),

@@ -4,4 +4,4 @@ use Rattle.journal_parts.proofs.register.Register.has_seats.Given as goal
 
 abbrev pub invariant-loop-seat : goal.invariant-loop-seat
 invariant-loop-seat g l =
-    AllStand (length g.L.Begins.packets) l.self.entries (drop l.seat-index l.seats) → AllStand (length g.L.Begins.packets) l.self.entries l.seats
+    AllStand g.L.Begins.numbers.count l.self.entries (drop l.seat-index l.seats) → AllStand g.L.Begins.numbers.count l.self.entries l.seats

@@ -4,5 +4,5 @@ use Rattle.journal_parts.proofs.register.Register.has_slips.Given as goal
 
 abbrev pub invariant-loop-slip : goal.invariant-loop-slip
 invariant-loop-slip g l =
-    StandAbove l.last (length g.L.Begins.packets) l.self.entries (drop l.slip-index l.slips) →
-    StandAbove 0 (length g.L.Begins.packets) l.self.entries l.slips
+    StandAbove l.last g.L.Begins.numbers.count l.self.entries (drop l.slip-index l.slips) →
+    StandAbove 0 g.L.Begins.numbers.count l.self.entries l.slips

@@ -13,9 +13,9 @@ use Rattle.journal_parts.proofs.register.Register.sent_packet.Goals as goal
 pub returns-clause-some : goal.returns-clause-some
 returns-clause-some g c =
     let found = c.in_ok-noted.ensures.lookup in
-    subst (λ (v : Registered). IfSome (option_copied c.packet.result) (λ packet. HasPacket g.L.Begins.packets v.entries c.args.number (packet_of packet)))
+    subst (λ (v : Registered). IfSome (option_copied c.packet.result) (λ packet. HasPacket g.L.Begins.numbers v.entries c.args.number (packet_of packet)))
     c.self.view_is
-    (sent_here c.self.inside.noted.items g.L.Begins.packets c.self.inside.sent c.in_ok-checked_sub.field-0 c.args.number c.in_ok-noted.noted.now
+    (sent_here c.self.inside.noted.items g.L.Begins.numbers c.self.inside.sent c.in_ok-checked_sub.field-0 c.args.number c.in_ok-noted.noted.now
     c.packet.result c.self.invariant.0.numbered c.self.invariant.0.sound
     (found.0 ∙ ap (λ (all : List Noted). nat_lt c.in_ok-checked_sub.field-0 (length all)) c.deref.ensures.value)
     (subst (λ (all : List Noted). c.in_ok-noted.noted.now ≡ get_or all c.in_ok-checked_sub.field-0 c.in_ok-noted.noted.now) c.deref.ensures.value found.1)
@@ -28,12 +28,12 @@ returns-in_err-checked_sub-clause-none g c =
     let all = c.as_slice.result.now in
     let point : IsPoint all number c.partition_point-behind.result =
     IsPartitionPoint-from_clause (is_below number) all c.partition_point-behind.result c.partition_point-behind.ensures.partitioned
-    (parted (length g.L.Begins.packets) noted all c.self.inside.sent number c.self.invariant.0.numbered c.as_slice.ensures.value)
+    (parted g.L.Begins.numbers.count noted all c.self.inside.sent number c.self.invariant.0.numbered c.as_slice.ensures.value)
     (λ a r q k. search (rules, of_calls)) in
     let first : c.partition_point-behind.result ≡ 0 = omega (arith, c.in_err-checked_sub.ensures) in
-    at_none c.from_residual.result (IsUnsent g.L.Begins.packets c.args.self.now.entries number)
-    (subst (λ (v : Registered). IsUnsent g.L.Begins.packets v.entries number) c.self.view_is
-    (unsent_first noted g.L.Begins.packets c.self.inside.sent number c.self.invariant.0.numbered
+    at_none c.from_residual.result (IsUnsent g.L.Begins.numbers c.args.self.now.entries number)
+    (subst (λ (v : Registered). IsUnsent g.L.Begins.numbers v.entries number) c.self.view_is
+    (unsent_first noted g.L.Begins.numbers c.self.inside.sent number c.self.invariant.0.numbered
     (subst (λ (ns : List Noted). AreBehind ns 0 number) c.as_slice.ensures.value
     (subst (λ (b : ℕ). AreBehind all b number) first point.1))))
 
@@ -55,14 +55,14 @@ returns-clause-none g c =
     let found = c.in_ok-noted.ensures.lookup in
     let point : IsPoint all number c.partition_point-behind.result =
     IsPartitionPoint-from_clause (is_below number) all c.partition_point-behind.result c.partition_point-behind.ensures.partitioned
-    (parted (length g.L.Begins.packets) noted all c.self.inside.sent number c.self.invariant.0.numbered c.as_slice.ensures.value)
+    (parted g.L.Begins.numbers.count noted all c.self.inside.sent number c.self.invariant.0.numbered c.as_slice.ensures.value)
     (λ a r q k. search (rules, of_calls)) in
     let within : place < length noted =
     let same = ap (λ (ns : List Noted). length ns) c.deref.ensures.value in
     let read = found.0 in
     grind (arith, nat_tests, same, read) in
     let at : c.partition_point-behind.result ≡ place + 1 = omega (arith, c.in_ok-checked_sub.ensures) in
-    subst (λ (v : Registered). IfNone c.packet.result (IsUnsent g.L.Begins.packets v.entries number)) c.self.view_is
-    (unsent_here noted all g.L.Begins.packets c.self.inside.sent place c.partition_point-behind.result number c.in_ok-noted.noted.now c.packet.result
+    subst (λ (v : Registered). IfNone c.packet.result (IsUnsent g.L.Begins.numbers v.entries number)) c.self.view_is
+    (unsent_here noted all g.L.Begins.numbers c.self.inside.sent place c.partition_point-behind.result number c.in_ok-noted.noted.now c.packet.result
     c.self.invariant.0.numbered c.self.invariant.0.sound c.as_slice.ensures.value point at within
     (subst (λ (ns : List Noted). c.in_ok-noted.noted.now ≡ get_or ns place c.in_ok-noted.noted.now) c.deref.ensures.value found.1) c.packet.ensures.none)

@@ -16,42 +16,50 @@ use Rattle.node_threads.proofs.Behind.{behind}
 use Rattle.node_threads.proofs.cluster.Cluster.close.Goals as goal
 
 pub returns-in-Ok-clause-fate : goal.returns-in-Ok-clause-fate
-returns-in-Ok-clause-fate g c = λ sure before inputs lead.
+returns-in-Ok-clause-fate g c = λ sure packets have before inputs lead.
     tells_one_fate g.L.Begins.cluster before inputs (entries_in c.into_journal.result) c.into_journal.ensures.closed.ends
-    (behind g.S.StableStore.stored g.L.Begins.cluster g.L.Begins.kept g.L.Begins.packets c.into_journal.result c.into_journal.ensures.closed sure before inputs lead)
+    (behind g.S.StableStore.stored g.L.Begins.cluster g.L.Begins.kept g.L.Begins.numbers c.into_journal.result c.into_journal.ensures.closed sure packets have
+    before inputs lead)
 
 pub returns-in-Ok-clause-grants : goal.returns-in-Ok-clause-grants
-returns-in-Ok-clause-grants g c = λ sure before inputs lead.
+returns-in-Ok-clause-grants g c = λ sure packets have before inputs lead.
     grants_nothing_after g.L.Begins.cluster before inputs (entries_in c.into_journal.result) c.into_journal.ensures.closed.ends
-    (behind g.S.StableStore.stored g.L.Begins.cluster g.L.Begins.kept g.L.Begins.packets c.into_journal.result c.into_journal.ensures.closed sure before inputs lead)
+    (behind g.S.StableStore.stored g.L.Begins.cluster g.L.Begins.kept g.L.Begins.numbers c.into_journal.result c.into_journal.ensures.closed sure packets have
+    before inputs lead)
 
 pub returns-in-Ok-clause-chosen : goal.returns-in-Ok-clause-chosen
-returns-in-Ok-clause-chosen g c = λ sure before inputs lead.
+returns-in-Ok-clause-chosen g c = λ sure packets have before inputs lead.
     all_chosen g.L.Begins.cluster before inputs (entries_in c.into_journal.result) c.into_journal.ensures.closed.ends
-    (behind g.S.StableStore.stored g.L.Begins.cluster g.L.Begins.kept g.L.Begins.packets c.into_journal.result c.into_journal.ensures.closed sure before inputs lead)
+    (behind g.S.StableStore.stored g.L.Begins.cluster g.L.Begins.kept g.L.Begins.numbers c.into_journal.result c.into_journal.ensures.closed sure packets have
+    before inputs lead)
 
 pub returns-in-Ok-clause-deliveries : goal.returns-in-Ok-clause-deliveries
-returns-in-Ok-clause-deliveries g c = λ sure before inputs lead.
+returns-in-Ok-clause-deliveries g c = λ sure packets have before inputs lead.
     deliveries_stand_in_the_run g.L.Begins.cluster before inputs (entries_in c.into_journal.result) c.into_journal.ensures.closed.ends
-    (behind g.S.StableStore.stored g.L.Begins.cluster g.L.Begins.kept g.L.Begins.packets c.into_journal.result c.into_journal.ensures.closed sure before inputs lead)
+    (behind g.S.StableStore.stored g.L.Begins.cluster g.L.Begins.kept g.L.Begins.numbers c.into_journal.result c.into_journal.ensures.closed sure packets have
+    before inputs lead)
 
 pub returns-in-Ok-clause-deliveries_here : goal.returns-in-Ok-clause-deliveries_here
-returns-in-Ok-clause-deliveries_here g c = λ sure before inputs lead none.
+returns-in-Ok-clause-deliveries_here g c = λ sure packets have before inputs lead none.
     all_deliveries_stand g.L.Begins.cluster before (entries_in c.into_journal.result) c.into_journal.ensures.closed.ends
     (subst (λ (is : List NodeInput). IsJournal g.L.Begins.cluster before is (entries_in c.into_journal.result) c.into_journal.ensures.closed.ends) none
-    (behind g.S.StableStore.stored g.L.Begins.cluster g.L.Begins.kept g.L.Begins.packets c.into_journal.result c.into_journal.ensures.closed sure before inputs lead))
+    (behind g.S.StableStore.stored g.L.Begins.cluster g.L.Begins.kept g.L.Begins.numbers c.into_journal.result c.into_journal.ensures.closed sure packets have
+    before inputs lead))
 
 pub returns-in-Ok-clause-queries : goal.returns-in-Ok-clause-queries
-returns-in-Ok-clause-queries g c = λ sure before inputs lead.
+returns-in-Ok-clause-queries g c = λ sure packets have before inputs lead.
     queries_told g.L.Begins.cluster before inputs (entries_in c.into_journal.result) c.into_journal.ensures.closed.ends
-    (behind g.S.StableStore.stored g.L.Begins.cluster g.L.Begins.kept g.L.Begins.packets c.into_journal.result c.into_journal.ensures.closed sure before inputs lead)
+    (behind g.S.StableStore.stored g.L.Begins.cluster g.L.Begins.kept g.L.Begins.numbers c.into_journal.result c.into_journal.ensures.closed sure packets have
+    before inputs lead)
 
 pub returns-in-Ok-clause-accepted : goal.returns-in-Ok-clause-accepted
-returns-in-Ok-clause-accepted g c = λ sure before inputs lead.
+returns-in-Ok-clause-accepted g c = λ sure packets have before inputs lead.
     accepted_known g.L.Begins.cluster before inputs (entries_in c.into_journal.result) c.into_journal.ensures.closed.ends
-    (behind g.S.StableStore.stored g.L.Begins.cluster g.L.Begins.kept g.L.Begins.packets c.into_journal.result c.into_journal.ensures.closed sure before inputs lead)
+    (behind g.S.StableStore.stored g.L.Begins.cluster g.L.Begins.kept g.L.Begins.numbers c.into_journal.result c.into_journal.ensures.closed sure packets have
+    before inputs lead)
 
 pub returns-in-Ok-clause-at_once : goal.returns-in-Ok-clause-at_once
-returns-in-Ok-clause-at_once g c = λ sure before inputs lead.
+returns-in-Ok-clause-at_once g c = λ sure packets have before inputs lead.
     ids_known g.L.Begins.cluster before inputs (entries_in c.into_journal.result) c.into_journal.ensures.closed.ends
-    (behind g.S.StableStore.stored g.L.Begins.cluster g.L.Begins.kept g.L.Begins.packets c.into_journal.result c.into_journal.ensures.closed sure before inputs lead)
+    (behind g.S.StableStore.stored g.L.Begins.cluster g.L.Begins.kept g.L.Begins.numbers c.into_journal.result c.into_journal.ensures.closed sure packets have
+    before inputs lead)
