@@ -20,7 +20,8 @@ use stable_store::StableStore;
 use std::sync::ledger::Ledger;
 
 impl<L: Begins> Register<L> {
-    /// Whether there are as many slips as entries, and the number of each entry is that of a slip. It takes no memory, and changes nothing that a contract names.
+    /// Whether there are as many slips as entries, and the number of each entry is that of a slip. It takes no memory, and changes nothing that a contract
+    /// names.
     pub fn has_each_once(&mut self, seats: &[Seat<L>]) -> bool
         ensures each { IsTrue result ↔ EachOnce (length self.old.entries) seats.now }
         ensures stays { self.new ≡ self.old }

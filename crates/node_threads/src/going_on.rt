@@ -15,9 +15,9 @@ use std::sync::Mutex;
 use std::sync::ledger::Blank;
 
 impl<S: StableStore + Drop, L: Begins> Cluster<S, L> {
-    /// The nodes of a journal that was closed, as they are there, and another part of it, with a ledger of slips with 1,000,000 parts, one for each seat. No node
-    /// is opened anew: requests go on waiting, and lives and permits stay what they were. The packets keep their numbers: those from this number on may still
-    /// come, and all others are NoSuchPacket now. An `Err` is want of memory, and the journal comes back.
+    /// The nodes of a journal that was closed, as they are there, and another part of it, with a ledger of slips with 1,000,000 parts, one for each seat. No
+    /// node is opened anew: requests go on waiting, and lives and permits stay what they were. The packets keep their numbers: those from this number on may
+    /// still come, and all others are NoSuchPacket now. An `Err` is want of memory, and the journal comes back.
     pub fn go_on(
         alloc: Global,
         blank: Blank,

@@ -19,9 +19,9 @@ const FIRST_SEQUENCE: u32 = 1;
 /// Attempts what it hears of: each attempt that the node grants in this life is carried through the gate, and what the gate gave is handed in. No lock is held
 /// meanwhile. The octets of its attempts are numbered from 1; after 0x7fffffff comes 1 again.
 ///
-/// It ends with Ok once the hints are shut and none is left. An attempt that is not granted is skipped, and any other refusal ends it: a permit that it has then
-/// is given up, and its attempt stays granted, and is not granted again, until the node starts anew. Memory comes also if there is none for the octets of an
-/// attempt that was granted.
+/// It ends with Ok once the hints are shut and none is left. An attempt that is not granted is skipped, and any other refusal ends it: a permit that it has
+/// then is given up, and its attempt stays granted, and is not granted again, until the node starts anew. Memory comes also if there is none for the octets
+/// of an attempt that was granted.
 pub fn worker<S: StableStore, L: Begins, R: Wait, G: Gate<R>>(
     cluster: &Cluster<S, L>,
     rt: &R,
