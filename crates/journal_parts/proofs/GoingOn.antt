@@ -53,17 +53,17 @@ numbered_in : (before : ℕ) (sent : List Sent) (one : Carried) → In one (numb
     (place : ℕ) × (slice_get sent place ≡ Some one.packet) × (one.number ≡ before + (place + 1))
 numbered_in before [] one none = absurd none
 numbered_in before (packet ∷ later) one (inl same) =
-    (zero, (ap (λ (c : Carried). Some c.packet) (sym same), ap (λ (c : Carried). c.number) same))
+    (zero, ap (λ (c : Carried). Some c.packet) (sym same), ap (λ (c : Carried). c.number) same)
 numbered_in before (packet ∷ later) one (inr among) =
-    let (place, (is, number)) = numbered_in (before + 1) later one among in (suc place, (is, omega (arith, number)))
+    let (place, is, number) = numbered_in (before + 1) later one among in (suc place, is, omega (arith, number))
 
 sent_in : (noted : List Noted) (one : Carried) → In one (all_sent_by noted) → (here : Noted) × In here noted × IsNumberedIn here one.number one.packet
 sent_in [] one none = absurd none
 sent_in (first ∷ later) one among = elim (in_either one (sent_by first) (all_sent_by later) among) [
   | inl here ↦
-      let (place, (is, number)) = numbered_in first.before (arc_value first.entry.done).outputs.packets.items one here in
-      (first, (inl refl, record { place = place; is = is; number_is = number }))
-  | inr there ↦ let (other, (behind, is)) = sent_in later one there in (other, (inr behind, is))
+      let (place, is, number) = numbered_in first.before (arc_value first.entry.done).outputs.packets.items one here in
+      (first, inl refl, record { place = place; is = is; number_is = number })
+  | inr there ↦ let (other, behind, is) = sent_in later one there in (other, inr behind, is)
 ]
 
 module _ {S : Type 0} (cluster : Cluster) (numbers : Numbers) (packets : List Packet) (closed : Closed S)
@@ -72,7 +72,7 @@ module _ {S : Type 0} (cluster : Cluster) (numbers : Numbers) (packets : List Pa
   come_behind one (inl again) =
       again_kept packets (reverse (packets_sent (entries_in closed))) closed.carried one (λ other among. have.come other (register.carries other among)) again
   come_behind one (inr sent) =
-      let (here, (among, is)) = sent_in closed.noted one sent in
+      let (here, among, is) = sent_in closed.noted one sent in
       let (place, at) = place_in closed.noted here among in
       numbered closed.noted packets closed.sent place one.number here one.packet
       (subst (λ (n : ℕ). AreNumbered n closed.noted closed.sent) (sym have.count) register.numbered) register.sound at is
@@ -95,15 +95,16 @@ module _ {S : Type 0} (cluster : Cluster) (numbers : Numbers) (packets : List Pa
 pub from_both : (from : ℕ) (first second : List Carried) → all_from from first ++ all_from from second ≡ all_from from (first ++ second)
 from_both from first second = sym (filter-append (is_from from) first second)
 
+among_kept : (b : Bool) (kept later : List Carried) (first one : Carried) → In one (if b then first ∷ kept else kept) →
+    (In one kept → In one later) → In one (first ∷ later)
+among_kept true kept later first one (inl same) rest = inl same
+among_kept true kept later first one (inr there) rest = inr (rest there)
+among_kept false kept later first one there rest = inr (rest there)
+
 -- What is carried came from those that may come.
 pub from_among : (from : ℕ) (all : List Carried) (one : Carried) → In one (all_from from all) → In one all
 from_among from [] one none = absurd none
-from_among from (first ∷ later) one among = kept_among (is_from from first) among
-  where
-    kept_among : (b : Bool) → In one (if b then first ∷ all_from from later else all_from from later) → In one (first ∷ later)
-    kept_among true (inl same) = inl same
-    kept_among true (inr there) = inr (from_among from later one there)
-    kept_among false there = inr (from_among from later one there)
+from_among from (first ∷ later) one among = among_kept (is_from from first) (all_from from later) later first one among (from_among from later one)
 
 -- ---- what the nodes keep
 

@@ -55,4 +55,4 @@ BothAreOne {S} stored =
     (later : IsClosed stored cluster (kept_in other first.posts) (numbers_behind first) second) → AreSure stored second.posts →
     (packets : List Packet) → HaveNumbers numbers packets →
     IsPart cluster kept packets (entries_in first ++ entries_in second) later.ends
-      × HaveNumbers (numbers_behind first) (numbered_behind first packets)
+    × HaveNumbers (numbers_behind first) (numbered_behind first packets)

@@ -7,4 +7,4 @@ abbrev pub invariant-loop-packet : goal.invariant-loop-packet
 invariant-loop-packet l =
     (l.number ≡ l.noted.before + l.packet-index)
     × (l.into.items ++ all_from l.from (numbered_from l.number (drop l.packet-index (arc_value l.noted.entry.done).outputs.packets.items))
-        ≡ l.initial.into.items ++ all_from l.from (sent_by l.noted))
+    ≡ l.initial.into.items ++ all_from l.from (sent_by l.noted))

@@ -14,7 +14,11 @@ use Rattle.journal_parts.proofs.register.Register.enter.Goals as goal
 
 pub invariant_of-self : goal.invariant_of-self
 invariant_of-self g c =
-    let one : Noted = record { entry = c.copies.inside.journal; before = c.self.inside.sent } in
+    let one : Noted = record {
+      entry = c.copies.inside.journal;
+      before = c.self.inside.sent;
+      within = c.push_reserved-arg-2-1.given.0;
+    } in
     let within : IsInRange g.L.Begins.cluster (node_at (entry_of one.entry).done.step) =
     subst (λ (e : Entry). IsInRange g.L.Begins.cluster (node_at e.done.step)) (sym c.copies.view_is) c.requires.node in
     let sound : IsSound (entry_of one.entry) = subst (λ (e : Entry). IsSound e) (sym c.copies.view_is) c.requires.sound in

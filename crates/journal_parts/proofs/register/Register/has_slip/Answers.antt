@@ -22,7 +22,7 @@ returns-then-noted-packets_before g c = λ same.
     let one = c.in-Some.ensures in
     let numbered = c.number.ensures in
     subst (λ (r : Registered). StandsAt g.L.Begins.numbers.count r.entries c.args.slip.now) c.self.view_is
-    (stands_at all g.L.Begins.numbers c.self.inside.sent c.in-Some.place c.in-Some-get.noted.now c.args.slip.now c.self.invariant.0.numbered
+    (stands_at all g.L.Begins.numbers.count c.self.inside.sent c.in-Some.place c.in-Some-get.noted.now c.args.slip.now c.self.invariant.0.numbered
     c.self.invariant.0.sound (slice_get_read all (length all) c.in-Some.place c.in-Some-get.noted.now refl (grind (arith, nat_tests, within)) read)
     (omega (arith, one, numbered)) (sym (c.if-noted-packets_before.true ∙ c.packets_before.ensures))
     (subst (λ (e : Entry). AreAlike (entry_of c.in-Some-get.noted.now.entry) e) c.entry.ensures (c.is.ensures same)))
