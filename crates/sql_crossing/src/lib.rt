@@ -1,6 +1,8 @@
 //! Stores on disk may go to another thread, and threads may share one.
 #![tactic(auto)]
 
+use node_crossing::{cluster_goes, cluster_is_shared, node_goes};
+use node_threads::Begins;
 use sql_store::SqlStore;
 use sqlite::{File, FileStore, MemStore};
 
@@ -20,4 +22,18 @@ pub fn stores_in_memory_cross() {
 pub fn stores_in_files_cross() {
     goes::<SqlStore<FileStore<File>>>();
     is_shared::<SqlStore<FileStore<File>>>();
+}
+
+/// A node and a cluster over stores in memory may go to another thread, and threads may share such a cluster. The call does nothing.
+pub fn nodes_in_memory_cross<L: Begins + Send + Sync>() {
+    node_goes::<SqlStore<MemStore>>();
+    cluster_goes::<SqlStore<MemStore>, L>();
+    cluster_is_shared::<SqlStore<MemStore>, L>();
+}
+
+/// The same of a node and a cluster over stores in files. The call does nothing.
+pub fn nodes_over_files_cross<L: Begins + Send + Sync>() {
+    node_goes::<SqlStore<FileStore<File>>>();
+    cluster_goes::<SqlStore<FileStore<File>>, L>();
+    cluster_is_shared::<SqlStore<FileStore<File>>, L>();
 }
