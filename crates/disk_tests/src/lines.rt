@@ -3,7 +3,7 @@
 use crate::cluster::Cluster;
 use crate::rows::{OF_A_CLUSTER, OF_ONE_NODE};
 use crate::same::assert_same;
-use lines_of_tests::{Given, NOTHING, answer_said, input_of, node, numbers};
+use lines_of_tests::{Given, NOTHING, OF_THREE_NODES, answer_said, input_of, node, numbers};
 use node_core::Setup;
 use sql_store::SqlStore;
 use sqlite::MemStore;
@@ -151,5 +151,7 @@ fn rows_of_one_node(rt: HostRuntime) {
 
 #[test]
 fn rows_of_a_cluster(rt: HostRuntime) {
-    assert_rows(&rt, rt.alloc(), OF_A_CLUSTER);
+    let alloc = rt.alloc();
+    assert_rows(&rt, alloc, OF_THREE_NODES);
+    assert_rows(&rt, alloc, OF_A_CLUSTER);
 }

@@ -1,7 +1,5 @@
-//! Worked rows over nodes with stores on disk. Between empty lines each is one of the worked scripts, or a story of its own, and begins with its name and
-//! the nodes; then comes what a line of the script does at a node, without sessions: the word of an input (`lines_of_tests`), its node and the
-//! rest, or `settle`, `deliver`, `replay`, `crash` and `restart`, as in a script. Behind an arrow stand a node and what it answers. Without one
-//! nothing is told, whatever packets are sent.
+//! Worked rows over nodes with stores on disk, in the form of those over three nodes (`lines_of_tests`), with `deliver`, `replay` and `crash` besides, as in a
+//! script. Some are stories of their own.
 
 // Of a node alone.
 pub const OF_ONE_NODE: &str = "\
@@ -200,33 +198,6 @@ settle => 1 Reported 1000100001 5 1706660880 100";
 
 // Of several nodes. The last two are no worked scripts.
 pub const OF_A_CLUSTER: &str = "\
-cancel_of_a_taken_message
-nodes 3
-tick 1 1706659200
-tick 2 1706659200
-tick 3 1706659200
-submit 1 => 1 Waits 1
-settle => 1 Accepted 1 1000100001
-cancel 1 => 1 Waits 2
-settle => 1 Removed 2
-cancel 1 => 1 Waits 3
-settle => 1 Removed 3
-
-cancel_of_a_delivered_message
-nodes 3
-tick 1 1706659200
-tick 2 1706659200
-tick 3 1706659200
-submit 1 => 1 Waits 1
-settle => 1 Accepted 1 1000100001
-tick 1 1706659200 sme1 => 1 Started 1000100001 1 262161
-settle
-grant 1 => 1 Granted 1 1
-delivered 1
-settle
-cancel 1 => 1 Waits 2
-settle => 1 Kept 2
-
 cancel_after_grant_on_another_node
 nodes 3
 tick 1 1706659200
@@ -245,21 +216,6 @@ cancel 2 => 2 Waits 2
 settle => 2 Removed 2
 grant 1 => 1 Unprepared 2 1
 grant 2 => 2 Unprepared 2 1
-
-delivered_and_queried_elsewhere
-nodes 3
-tick 1 1706659200
-tick 2 1706659200
-tick 3 1706659200
-submit_with_receipt 1 => 1 Waits 1
-settle => 1 Accepted 1 1000100001
-tick 1 1706659200 sme1 => 1 Started 1000100001 1 262161
-settle
-grant 1 => 1 Granted 1 1
-delivered 1
-settle => 1 Reported 1000100001 2 1706659200
-query 3 => 3 Waits 1
-settle => 3 Shown 1 2 1706659200
 
 replayed_packets
 nodes 3
@@ -298,26 +254,6 @@ deliver 13 2
 deliver 13 3
 settle => 2 Removed 1
 grant 1 => 1 Unprepared 2 1
-
-restart_with_an_open_attempt
-nodes 3
-tick 1 1706659200
-tick 2 1706659200
-tick 3 1706659200
-submit 1 => 1 Waits 1
-settle => 1 Accepted 1 1000100001
-tick 1 1706659200 sme1 => 1 Started 1000100001 1 262161
-settle
-restart 1
-tick 1 1706659200
-settle
-grant 1 => 1 Unprepared 2 3
-tick 1 1706659200
-settle
-tick 1 1706659259 sme1
-tick 1 1706659260 sme1
-settle
-grant 1 => 1 Granted 3 2
 
 query_waits_29_seconds
 nodes 3

@@ -1,0 +1,13 @@
+use Rattle.std.specs.Prelude.{[]}
+use Rattle.node_threads.specs.Openings.{cluster_of, kept_at}
+use Rattle.sql_thread_tests.proofs.beside.rows_beside_a_thread_that_asks.Given as goal
+
+abbrev pub ghosts-journal_of-L-Begins : goal.ghosts-journal_of-L-Begins
+ghosts-journal_of-L-Begins g a = record {
+  cluster = cluster_of a.opened.0.items 259200;
+  kept = kept_at a.opened.0.items 259200;
+  packets = [];
+}
+
+abbrev pub ghosts-journal_of-L-Ledger : goal.ghosts-journal_of-L-Ledger
+ghosts-journal_of-L-Ledger g a = record { name = a.blank.name; parts = a.blank.parts }
