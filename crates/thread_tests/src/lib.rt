@@ -2,19 +2,27 @@
 #![tactic(auto)]
 
 #[cfg(test)]
-mod closings;
+mod all_slips;
+#[cfg(test)]
+mod clusters;
 #[cfg(test)]
 mod deliveries;
+#[cfg(test)]
+mod events;
 #[cfg(test)]
 mod gates;
 #[cfg(test)]
 mod hands;
+#[cfg(test)]
+mod held_delivery;
 #[cfg(test)]
 mod lives;
 #[cfg(test)]
 mod lots;
 #[cfg(test)]
 mod next_parts;
+#[cfg(test)]
+mod missing_seat;
 #[cfg(test)]
 mod openings;
 #[cfg(test)]
@@ -24,7 +32,11 @@ mod played_again;
 #[cfg(test)]
 mod replays;
 #[cfg(test)]
+mod read_back;
+#[cfg(test)]
 mod same;
+#[cfg(test)]
+mod silent_gate;
 #[cfg(test)]
 mod tables;
 #[cfg(test)]

@@ -3,13 +3,13 @@
 ghost use Rattle.std.specs.Prelude.{◌≡◌, []};
 ghost use Rattle.journal_parts.specs.Members.{IsBeginning};
 
+use crate::clusters::{asked, ticked};
 use crate::same::assert_same;
-use crate::tables::{PARTS, first, opened, settled};
+use crate::tables::{PARTS, opened, settled};
 use delivery::Outcome;
-use lines_of_tests::{account, first_id, request};
-use mc_types::Moment;
+use lines_of_tests::first_id;
 use node_core::{Life, Node};
-use node_threads::{Action, Begins, Cluster, Seat};
+use node_threads::{Begins, Cluster, Seat};
 use stable_store::ListStore;
 use std::alloc::Global;
 use std::marker::Brand;
@@ -24,12 +24,7 @@ pub fn submitted<L: Begins, R: Wait + Abort>(
     cluster: &Cluster<ListStore, L>,
     seat: &mut Seat<L>,
 ) {
-    let submit = Action::Request {
-        node: first(rt),
-        account: account(alloc).expect(rt, "an account"),
-        request: request(alloc, "submit_with_receipt").expect(rt, "a request"),
-    };
-    drop(cluster.act(rt, seat, submit).expect(rt, "a slip"));
+    drop(asked(rt, alloc, cluster, seat, (1, "submit_with_receipt")));
 }
 
 /// Hands in a tick at which sme1 is up.
@@ -39,15 +34,7 @@ pub fn attempted<L: Begins, R: Wait + Abort>(
     cluster: &Cluster<ListStore, L>,
     seat: &mut Seat<L>,
 ) {
-    let mut up = Vec::new(alloc);
-    up.push(account(alloc).expect(rt, "an account"))
-        .expect(rt, "memory");
-    let tick = Action::Tick {
-        node: first(rt),
-        moment: Moment::least(),
-        up,
-    };
-    drop(cluster.act(rt, seat, tick).expect(rt, "a slip"));
+    drop(ticked(rt, alloc, cluster, seat, 1));
 }
 
 /// Has the attempt granted, and delivered.

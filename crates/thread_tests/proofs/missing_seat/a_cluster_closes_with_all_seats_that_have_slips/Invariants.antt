@@ -1,0 +1,17 @@
+use Rattle.std.specs.Prelude.{[]}
+use Rattle.node_core.specs.Keeping.{kept_of}
+use Rattle.thread_tests.proofs.missing_seat.a_cluster_closes_with_all_seats_that_have_slips.Given as goal
+
+abbrev pub ghosts-closed_with_the_third-L-Begins : goal.ghosts-closed_with_the_third-L-Begins
+ghosts-closed_with_the_third-L-Begins g a = record {
+  cluster = record {
+    nodes = a.node.kept.setup.nodes;
+    serials = λ node. a.node.kept.setup.first_serial;
+    validities = λ node. a.node.kept.setup.default_validity;
+  };
+  kept = λ node. kept_of a.node.kept;
+  packets = [];
+}
+
+abbrev pub ghosts-closed_with_the_third-L-Ledger : goal.ghosts-closed_with_the_third-L-Ledger
+ghosts-closed_with_the_third-L-Ledger g a = record { name = a.blank.name; parts = a.blank.parts }
