@@ -8,21 +8,13 @@ mod deliveries;
 #[cfg(test)]
 mod gates;
 #[cfg(test)]
-mod hands;
-#[cfg(test)]
 mod lives;
-#[cfg(test)]
-mod lots;
 #[cfg(test)]
 mod next_parts;
 #[cfg(test)]
 mod openings;
 #[cfg(test)]
 mod parts;
-#[cfg(test)]
-mod played_again;
-#[cfg(test)]
-mod replays;
 #[cfg(test)]
 mod same;
 #[cfg(test)]
