@@ -154,7 +154,7 @@ impl Reader {
 
     fn read_reply(&mut self, rt: &impl Abort, node: NodeNo, reply: &Reply) {
         if let Some(asked) = self.answered(node, reply.ticket) {
-            self.compare(rt, asked.told, &reply.answer);
+            self.compare(rt, &asked.told, &reply.answer);
         }
         match &reply.answer {
             Answer::Accepted => self.accept(rt, reply.id),
@@ -177,7 +177,7 @@ impl Reader {
     }
 
     /// What a request is answered, of whose message so much had been told when it came.
-    fn compare(&mut self, rt: &impl Abort, told: Told, answer: &Answer) {
+    fn compare(&mut self, rt: &impl Abort, told: &Told, answer: &Answer) {
         if told.accepted {
             self.looks.accepted = self.looks.accepted.saturating_add(1);
             if matches!(answer, Answer::Unknown) {
