@@ -12,25 +12,17 @@ mod events;
 #[cfg(test)]
 mod gates;
 #[cfg(test)]
-mod hands;
-#[cfg(test)]
 mod held_delivery;
 #[cfg(test)]
 mod lives;
 #[cfg(test)]
-mod lots;
+mod missing_seat;
 #[cfg(test)]
 mod next_parts;
-#[cfg(test)]
-mod missing_seat;
 #[cfg(test)]
 mod openings;
 #[cfg(test)]
 mod parts;
-#[cfg(test)]
-mod played_again;
-#[cfg(test)]
-mod replays;
 #[cfg(test)]
 mod read_back;
 #[cfg(test)]
