@@ -1,10 +1,11 @@
 //! The entries of a journal that threads leave, in one part or in several, each of which goes on where the one before was closed.
 
-ghost use Rattle.std.specs.Prelude.{◌≡◌, [], length};
+ghost use Rattle.std.specs.Prelude.{◌≡◌, length};
 ghost use Rattle.stable_store.specs.Stored.{stored_in};
 ghost use Rattle.journal_parts.specs.Closing.{IsClosed};
 ghost use Rattle.journal_parts.specs.GoingOn.{GoesOn};
 ghost use Rattle.node_threads.specs.Actions.{AllBegin};
+ghost use Rattle.journal_parts.specs.Numbers.{none_sent};
 
 use crate::hands::{Hands, Held};
 use crate::opened::opened;
@@ -153,7 +154,7 @@ fn part<L: Begins + Send + Sync, R: Threads + Wait + Abort + Sync>(
     cluster: Cluster<UnsteadyStore, L>,
     work: Work,
 ) -> (Journal<UnsteadyStore>, Work)
-    ensures { IsClosed (λ store. stored_in store.store store.failed) L.cluster L.kept L.packets result.0 }
+    ensures { IsClosed (λ store. stored_in store.store store.failed) L.cluster L.kept L.numbers result.0 }
 {
     let Work {
         hands,
@@ -194,7 +195,7 @@ fn first_part<L: Begins + Send + Sync, R: Threads + Wait + Abort + Sync>(
     requires name { blank.name ≡ L.name }
     requires parts { blank.parts ≡ L.parts }
     requires all { blank.parts ≡ 1000000 }
-    requires packets { L.packets ≡ [] }
+    requires numbers { L.numbers ≡ none_sent }
     requires begin { AllBegin L.cluster L.kept nodes.items }
     requires count { length nodes.items ≡ L.cluster.nodes }
 {
@@ -213,7 +214,7 @@ fn next_part<L: Begins + Send + Sync, R: Threads + Wait + Abort + Sync>(
     requires name { next.blank.name ≡ L.name }
     requires parts { next.blank.parts ≡ L.parts }
     requires all { next.blank.parts ≡ 1000000 }
-    requires goes { GoesOn (λ store. stored_in store.store store.failed) L.cluster L.kept L.packets next.journal }
+    requires goes { GoesOn (λ store. stored_in store.store store.failed) L.cluster L.kept L.numbers next.journal }
 {
     let Next { blank, journal } = next;
     let from = work.first_left();
@@ -231,7 +232,7 @@ fn others<L: Begins + Send + Sync, R: Threads + Wait + Abort + Sync>(
     journal: Journal<UnsteadyStore>,
     work: Work,
 ) -> Vec<Entry>
-    requires { IsClosed (λ store. stored_in store.store store.failed) L.cluster L.kept L.packets journal }
+    requires { IsClosed (λ store. stored_in store.store store.failed) L.cluster L.kept L.numbers journal }
 {
     if work.parts == 0 {
         return work.entries;

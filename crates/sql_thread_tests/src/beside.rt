@@ -1,7 +1,8 @@
 //! Worked rows over nodes in threads, played from one seat while another thread hands in steps from another.
 
-ghost use Rattle.std.specs.Prelude.{◌≡◌, [], length};
+ghost use Rattle.std.specs.Prelude.{◌≡◌, length};
 ghost use Rattle.node_threads.specs.Actions.{AllBegin};
+ghost use Rattle.journal_parts.specs.Numbers.{none_sent};
 
 use crate::closing::closed;
 use crate::hands::Hands;
@@ -56,7 +57,7 @@ fn journal_of<L: Begins + Send + Sync, R: Threads + Wait + Abort + Sync>(
     requires name { blank.name ≡ L.name }
     requires parts { blank.parts ≡ L.parts }
     requires all { blank.parts ≡ 1000000 }
-    requires packets { L.packets ≡ [] }
+    requires numbers { L.numbers ≡ none_sent }
     requires begin { AllBegin L.cluster L.kept opened.0.items }
     requires count { length opened.0.items ≡ L.cluster.nodes }
 {

@@ -1,7 +1,8 @@
 //! Clusters of nodes over new stores, and what tests do with them.
 
-ghost use Rattle.std.specs.Prelude.{◌≡◌, [], length};
+ghost use Rattle.std.specs.Prelude.{◌≡◌, length};
 ghost use Rattle.node_threads.specs.Actions.{AllBegin};
+ghost use Rattle.journal_parts.specs.Numbers.{none_sent};
 
 use crate::openings::over_new_stores;
 use crate::tables::PARTS;
@@ -87,7 +88,7 @@ fn played_over<L: Begins + Send + Sync, R: Threads + Wait + Abort + Sync, P: Pla
     requires name { opened.blank.name ≡ L.name }
     requires parts { opened.blank.parts ≡ L.parts }
     requires all { opened.blank.parts ≡ 1000000 }
-    requires packets { L.packets ≡ [] }
+    requires numbers { L.numbers ≡ none_sent }
     requires begin { AllBegin L.cluster L.kept opened.nodes.items }
     requires count { length opened.nodes.items ≡ L.cluster.nodes }
 {

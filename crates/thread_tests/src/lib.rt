@@ -16,6 +16,8 @@ mod held_delivery;
 #[cfg(test)]
 mod lives;
 #[cfg(test)]
+mod many_parts;
+#[cfg(test)]
 mod missing_seat;
 #[cfg(test)]
 mod next_parts;

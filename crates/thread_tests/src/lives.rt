@@ -1,7 +1,8 @@
 //! A message of one node, from its submit_sm to its delivery, and a start anew.
 
-ghost use Rattle.std.specs.Prelude.{◌≡◌, []};
+ghost use Rattle.std.specs.Prelude.{◌≡◌};
 ghost use Rattle.journal_parts.specs.Members.{IsBeginning};
+ghost use Rattle.journal_parts.specs.Numbers.{none_sent};
 
 use crate::clusters::{asked, ticked};
 use crate::same::assert_same;
@@ -72,7 +73,7 @@ fn lived<L: Begins, R: Wait + Abort>(
     requires name { blank.name ≡ L.name }
     requires parts { blank.parts ≡ L.parts }
     requires all { blank.parts ≡ 1000000 }
-    requires packets { L.packets ≡ [] }
+    requires numbers { L.numbers ≡ none_sent }
     requires begins { IsBeginning L.cluster L.kept node }
     requires alone { L.cluster.nodes ≡ 1 }
 {

@@ -1,7 +1,8 @@
 //! The end of a cluster without one of its seats, and with all.
 
-ghost use Rattle.std.specs.Prelude.{◌≡◌, []};
+ghost use Rattle.std.specs.Prelude.{◌≡◌};
 ghost use Rattle.journal_parts.specs.Members.{IsBeginning};
+ghost use Rattle.journal_parts.specs.Numbers.{none_sent};
 
 use crate::clusters::{closed, ticked};
 use crate::lives::submitted;
@@ -59,7 +60,7 @@ fn closed_with_the_third<L: Begins, R: Wait + Abort>(
     requires name { blank.name ≡ L.name }
     requires parts { blank.parts ≡ L.parts }
     requires all { blank.parts ≡ 1000000 }
-    requires packets { L.packets ≡ [] }
+    requires numbers { L.numbers ≡ none_sent }
     requires begins { IsBeginning L.cluster L.kept node }
     requires alone { L.cluster.nodes ≡ 1 }
 {

@@ -1,10 +1,11 @@
 //! A journal of one node that is closed and goes on: its message is taken in the first part, and delivered in the second.
 
-ghost use Rattle.std.specs.Prelude.{◌≡◌, []};
+ghost use Rattle.std.specs.Prelude.{◌≡◌};
 ghost use Rattle.stable_store.specs.Stored.{stored_in};
 ghost use Rattle.journal_parts.specs.Closing.{IsClosed};
 ghost use Rattle.journal_parts.specs.GoingOn.{GoesOn};
 ghost use Rattle.journal_parts.specs.Members.{IsBeginning};
+ghost use Rattle.journal_parts.specs.Numbers.{none_sent};
 
 use crate::lives::{attempted, delivered, submitted};
 use crate::same::assert_same;
@@ -20,9 +21,9 @@ use std::sync::ledger::Blank;
 
 /// What the first part begins with.
 #[derive(Drop)]
-struct First {
-    blank: Blank,
-    node: Node<ListStore>,
+pub struct First {
+    pub blank: Blank,
+    pub node: Node<ListStore>,
 }
 
 /// What the second part goes on with, and from which number on packets of the first may still come.
@@ -34,13 +35,13 @@ struct Second {
 }
 
 /// The journal of a cluster with one seat, as it closes.
-fn closed<L: Begins>(
+pub fn closed<L: Begins>(
     rt: &impl Abort,
     alloc: Global,
     cluster: Cluster<ListStore, L>,
     seat: Seat<L>,
 ) -> Journal<ListStore>
-    ensures { IsClosed (λ list. stored_in list 0) L.cluster L.kept L.packets result }
+    ensures { IsClosed (λ list. stored_in list 0) L.cluster L.kept L.numbers result }
 {
     let mut seats = Vec::new(alloc);
     seats.push(seat).expect(rt, "memory");
@@ -51,7 +52,7 @@ fn closed<L: Begins>(
 }
 
 /// The journal of the first part, in which a message is taken.
-fn first_part<L: Begins, R: Wait + Abort>(
+pub fn first_part<L: Begins, R: Wait + Abort>(
     rt: &R,
     alloc: Global,
     blank: Blank,
@@ -60,10 +61,10 @@ fn first_part<L: Begins, R: Wait + Abort>(
     requires name { blank.name ≡ L.name }
     requires parts { blank.parts ≡ L.parts }
     requires all { blank.parts ≡ 1000000 }
-    requires packets { L.packets ≡ [] }
+    requires numbers { L.numbers ≡ none_sent }
     requires begins { IsBeginning L.cluster L.kept node }
     requires alone { L.cluster.nodes ≡ 1 }
-    ensures { IsClosed (λ list. stored_in list 0) L.cluster L.kept L.packets result }
+    ensures { IsClosed (λ list. stored_in list 0) L.cluster L.kept L.numbers result }
 {
     let mut nodes = Vec::new(alloc);
     nodes.push(node).expect(rt, "memory");
@@ -85,7 +86,7 @@ fn second_part<L: Begins, R: Wait + Abort>(
     requires name { second.blank.name ≡ L.name }
     requires parts { second.blank.parts ≡ L.parts }
     requires all { second.blank.parts ≡ 1000000 }
-    requires goes { GoesOn (λ list. stored_in list 0) L.cluster L.kept L.packets second.journal }
+    requires goes { GoesOn (λ list. stored_in list 0) L.cluster L.kept L.numbers second.journal }
 {
     let Second {
         blank,
@@ -119,7 +120,7 @@ fn both_parts<L: Begins, R: Wait + Abort>(
     requires name { first.blank.name ≡ L.name }
     requires parts { first.blank.parts ≡ L.parts }
     requires all { first.blank.parts ≡ 1000000 }
-    requires packets { L.packets ≡ [] }
+    requires numbers { L.numbers ≡ none_sent }
     requires begins { IsBeginning L.cluster L.kept first.node }
     requires alone { L.cluster.nodes ≡ 1 }
 {

@@ -7,6 +7,7 @@ ghost use Rattle.stable_store.specs.Stored.{stored_in};
 ghost use Rattle.journal_laws.specs.Parts.{LeadTo};
 ghost use Rattle.node_threads.specs.Actions.{AllBegin};
 ghost use Rattle.node_threads.specs.Openings.{AreNew, cluster_of};
+ghost use Rattle.journal_parts.specs.Numbers.{none_sent};
 
 use crate::clusters::{numbered, settled_at};
 use crate::lives::submitted;
@@ -60,10 +61,10 @@ fn taken<L: Begins, R: Wait + Abort>(
     requires name { blank.name ≡ L.name }
     requires parts { blank.parts ≡ L.parts }
     requires all { blank.parts ≡ 1000000 }
-    requires packets { L.packets ≡ [] }
+    requires numbers { L.numbers ≡ none_sent }
     requires begin { AllBegin L.cluster L.kept nodes.items }
     requires count { length nodes.items ≡ L.cluster.nodes }
-    requires leads { LeadTo L.cluster [] [] L.kept L.packets }
+    requires leads { LeadTo L.cluster [] [] L.kept [] }
 {
     let cluster = Cluster::<ListStore, L>::start(alloc, blank, nodes).expect(rt, "a cluster");
     let mut seat = cluster.seat(rt).expect(rt, "a seat");

@@ -1,10 +1,11 @@
 //! What stands under the locks of nodes in threads, each call of it once: the first round of a message, a grant, and a start anew.
 
-ghost use Rattle.std.specs.Prelude.{◌≡◌, [], false, true};
+ghost use Rattle.std.specs.Prelude.{◌≡◌, false, true};
 ghost use Rattle.node_core.specs.Nodes.{IsLifeOf};
 ghost use Rattle.node_core.specs.Permits.{is_life_of};
 ghost use Rattle.journal_parts.specs.Members.{IsAct, IsBeginning};
 ghost use Rattle.world.specs.Runs.{node_at};
+ghost use Rattle.journal_parts.specs.Numbers.{none_sent};
 
 use crate::same::assert_same;
 use crate::tables::{PARTS, opened};
@@ -233,7 +234,7 @@ fn lived<L: Begins>(rt: &impl Abort, alloc: Global, blank: Blank, node: Node<Lis
     requires name { blank.name ≡ L.name }
     requires parts { blank.parts ≡ L.parts }
     requires all { blank.parts ≡ 1000000 }
-    requires packets { L.packets ≡ [] }
+    requires numbers { L.numbers ≡ none_sent }
     requires begins { IsBeginning L.cluster L.kept node }
 {
     let mut register = Register::<L>::open(alloc, blank).expect(rt, "memory");

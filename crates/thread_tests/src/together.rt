@@ -1,7 +1,8 @@
 //! Two threads over one cluster.
 
-ghost use Rattle.std.specs.Prelude.{◌≡◌, []};
+ghost use Rattle.std.specs.Prelude.{◌≡◌};
 ghost use Rattle.journal_parts.specs.Members.{IsBeginning};
+ghost use Rattle.journal_parts.specs.Numbers.{none_sent};
 
 use crate::same::assert_same;
 use crate::tables::{PARTS, first, opened, settled};
@@ -44,7 +45,7 @@ fn ticked_by_two<L: Begins + Send + Sync, R: Threads + Wait + Abort + Sync>(
     requires name { blank.name ≡ L.name }
     requires parts { blank.parts ≡ L.parts }
     requires all { blank.parts ≡ 1000000 }
-    requires packets { L.packets ≡ [] }
+    requires numbers { L.numbers ≡ none_sent }
     requires begins { IsBeginning L.cluster L.kept node }
     requires alone { L.cluster.nodes ≡ 1 }
 {

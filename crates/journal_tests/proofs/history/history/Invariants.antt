@@ -1,14 +1,14 @@
-use Rattle.std.specs.Prelude.{[]}
 use Rattle.mc_model.specs.cluster.Steps.{setup_of}
 use Rattle.node_model.specs.Stepped.{opened_new}
 use Rattle.node_threads.specs.Openings.{cluster_of}
+use Rattle.journal_parts.specs.Numbers.{none_sent}
 use Rattle.journal_tests.proofs.history.history.Given as goal
 
 abbrev pub ghosts-first_part-L-Begins : goal.ghosts-first_part-L-Begins
 ghosts-first_part-L-Begins g a = record {
   cluster = cluster_of a.nodes.items 172800;
   kept = λ node. opened_new (setup_of (cluster_of a.nodes.items 172800) node);
-  packets = [];
+  numbers = none_sent;
 }
 
 abbrev pub ghosts-first_part-L-Ledger : goal.ghosts-first_part-L-Ledger

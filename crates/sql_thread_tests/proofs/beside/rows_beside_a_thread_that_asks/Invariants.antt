@@ -1,12 +1,12 @@
-use Rattle.std.specs.Prelude.{[]}
 use Rattle.node_threads.specs.Openings.{cluster_of, kept_at}
+use Rattle.journal_parts.specs.Numbers.{none_sent}
 use Rattle.sql_thread_tests.proofs.beside.rows_beside_a_thread_that_asks.Given as goal
 
 abbrev pub ghosts-journal_of-L-Begins : goal.ghosts-journal_of-L-Begins
 ghosts-journal_of-L-Begins g a = record {
   cluster = cluster_of a.opened.0.items 259200;
   kept = kept_at a.opened.0.items 259200;
-  packets = [];
+  numbers = none_sent;
 }
 
 abbrev pub ghosts-journal_of-L-Ledger : goal.ghosts-journal_of-L-Ledger

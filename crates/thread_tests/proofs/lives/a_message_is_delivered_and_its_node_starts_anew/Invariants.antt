@@ -1,5 +1,5 @@
-use Rattle.std.specs.Prelude.{[]}
 use Rattle.node_core.specs.Keeping.{kept_of}
+use Rattle.journal_parts.specs.Numbers.{none_sent}
 use Rattle.thread_tests.proofs.lives.a_message_is_delivered_and_its_node_starts_anew.Given as goal
 
 abbrev pub ghosts-lived-L-Begins : goal.ghosts-lived-L-Begins
@@ -10,7 +10,7 @@ ghosts-lived-L-Begins g a = record {
     validities = λ node. a.node.kept.setup.default_validity;
   };
   kept = λ node. kept_of a.node.kept;
-  packets = [];
+  numbers = none_sent;
 }
 
 abbrev pub ghosts-lived-L-Ledger : goal.ghosts-lived-L-Ledger

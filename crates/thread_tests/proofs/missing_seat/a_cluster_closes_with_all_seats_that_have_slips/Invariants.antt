@@ -1,5 +1,5 @@
-use Rattle.std.specs.Prelude.{[]}
 use Rattle.node_core.specs.Keeping.{kept_of}
+use Rattle.journal_parts.specs.Numbers.{none_sent}
 use Rattle.thread_tests.proofs.missing_seat.a_cluster_closes_with_all_seats_that_have_slips.Given as goal
 
 abbrev pub ghosts-closed_with_the_third-L-Begins : goal.ghosts-closed_with_the_third-L-Begins
@@ -10,7 +10,7 @@ ghosts-closed_with_the_third-L-Begins g a = record {
     validities = λ node. a.node.kept.setup.default_validity;
   };
   kept = λ node. kept_of a.node.kept;
-  packets = [];
+  numbers = none_sent;
 }
 
 abbrev pub ghosts-closed_with_the_third-L-Ledger : goal.ghosts-closed_with_the_third-L-Ledger

@@ -1,5 +1,5 @@
-use Rattle.std.specs.Prelude.{[]}
 use Rattle.node_core.specs.Keeping.{kept_of}
+use Rattle.journal_parts.specs.Numbers.{none_sent}
 use Rattle.thread_tests.proofs.next_parts.gone_on.Given as goal
 
 abbrev pub ghosts-both_parts-L-Begins : goal.ghosts-both_parts-L-Begins
@@ -10,7 +10,7 @@ ghosts-both_parts-L-Begins g a = record {
     validities = λ node. a.first.node.kept.setup.default_validity;
   };
   kept = λ node. kept_of a.first.node.kept;
-  packets = [];
+  numbers = none_sent;
 }
 
 abbrev pub ghosts-both_parts-L-Ledger : goal.ghosts-both_parts-L-Ledger

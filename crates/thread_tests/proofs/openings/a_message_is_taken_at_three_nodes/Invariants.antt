@@ -1,14 +1,14 @@
-use Rattle.std.specs.Prelude.{[]}
 use Rattle.mc_model.specs.cluster.Steps.{setup_of}
 use Rattle.node_model.specs.Stepped.{opened_new}
 use Rattle.node_threads.specs.Openings.{cluster_of}
+use Rattle.journal_parts.specs.Numbers.{none_sent}
 use Rattle.thread_tests.proofs.openings.a_message_is_taken_at_three_nodes.Given as goal
 
 abbrev pub ghosts-taken-L-Begins : goal.ghosts-taken-L-Begins
 ghosts-taken-L-Begins g a = record {
   cluster = cluster_of a.nodes.items 172800;
   kept = λ node. opened_new (setup_of (cluster_of a.nodes.items 172800) node);
-  packets = [];
+  numbers = none_sent;
 }
 
 abbrev pub ghosts-taken-L-Ledger : goal.ghosts-taken-L-Ledger

@@ -1,5 +1,5 @@
-use Rattle.std.specs.Prelude.{[]}
 use Rattle.node_core.specs.Keeping.{kept_of}
+use Rattle.journal_parts.specs.Numbers.{none_sent}
 use Rattle.thread_tests.proofs.together.two_threads_hand_in_steps_of_one_node.Given as goal
 
 abbrev pub ghosts-ticked_by_two-L-Begins : goal.ghosts-ticked_by_two-L-Begins
@@ -10,7 +10,7 @@ ghosts-ticked_by_two-L-Begins g a = record {
     validities = λ node. a.node.kept.setup.default_validity;
   };
   kept = λ node. kept_of a.node.kept;
-  packets = [];
+  numbers = none_sent;
 }
 
 abbrev pub ghosts-ticked_by_two-L-Ledger : goal.ghosts-ticked_by_two-L-Ledger
