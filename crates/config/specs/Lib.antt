@@ -5,3 +5,5 @@ pub mod Faults
 pub mod Config
 pub mod Building
 pub mod Scripts
+pub mod OwnKeys
+pub mod Own

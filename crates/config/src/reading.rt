@@ -25,7 +25,7 @@ pub fn read_config(alloc: Global, octets: &[u8]) -> Result<Config, ConfigFault>
 }
 
 /// The table of a text.
-fn document_of(alloc: Global, octets: &[u8]) -> Result<Value, ConfigFault>
+pub(crate) fn document_of(alloc: Global, octets: &[u8]) -> Result<Value, ConfigFault>
     ensures { MatchResult result (λ document. spec.IsDocument octets.now (view document)) (spec.ReadsNone octets.now) }
 {
     match toml::table_from_slice(alloc, octets) {

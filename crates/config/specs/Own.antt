@@ -1,0 +1,62 @@
+-- The table `own` of a configuration: what it says, and its faults (own).
+use Rattle.std.specs.Prelude.{◌≡◌, ℕ, true, false, List, codes, Option, Some, None, IfSome, Result, Ok, Err}
+use Rattle.toml.specs.Data.{Data, get}
+use Rattle.config.specs.declared.own.Own.{Own}
+use Rattle.config.specs.declared.own_key.OwnKey.{OwnKey}
+use Rattle.config.specs.declared.own_key.OwnKey.TheVariants.{IdleSeconds, BindSeconds, WriteSeconds, Sessions}
+use Rattle.config.specs.declared.own_fault.OwnFault.{OwnFault}
+use Rattle.config.specs.declared.own_fault.OwnFault.TheVariants as faults
+pub use Rattle.config.specs.Config.{IsDocument}
+use Rattle.config.specs.Config.{number_at}
+use Rattle.config.specs.Faults.{IsNumberOf}
+use Rattle.config.specs.OwnKeys.{most_in, own_name}
+use Rattle.config.specs.Rows.{is_table}
+
+-- a key has a value that it may have, or none
+abbrev pub IsFitOwn : Data → OwnKey → Type 0
+IsFitOwn table key = IfSome (get (own_name key) table) (IsNumberOf 0 (most_in key))
+
+-- what stands under a key; 0 if nothing does
+abbrev pub limit_at : Data → OwnKey → ℕ
+limit_at table key = number_at 0 (own_name key) table
+
+abbrev pub own_at : Data → Own
+own_at table = record {
+  idle_seconds = limit_at table IdleSeconds;
+  bind_seconds = limit_at table BindSeconds;
+  write_seconds = limit_at table WriteSeconds;
+  sessions = limit_at table Sessions;
+}
+
+-- what a key of a table says, or why not
+abbrev pub IsLimit : Data → OwnKey → Result ℕ OwnFault → Type 0
+IsLimit table key (Ok number) = IsFitOwn table key × (number ≡ limit_at table key)
+IsLimit table key (Err fault) = (¬ IsFitOwn table key) × (fault ≡ faults.BadValue key)
+
+-- what a value under `own` says, or why not
+abbrev pub IsOwnIn : Data → Result Own OwnFault → Type 0
+IsOwnIn table (Ok own) = (is_table table ≡ true) × ((key : OwnKey) → IsFitOwn table key) × (own ≡ own_at table)
+IsOwnIn table (Err faults.NotToml) = ⊥
+IsOwnIn table (Err faults.NoTable) = is_table table ≡ false
+IsOwnIn table (Err (faults.BadValue key)) = (is_table table ≡ true) × (¬ IsFitOwn table key)
+IsOwnIn table (Err faults.Memory) = ⊥
+
+-- nothing under `own` is no limit
+abbrev pub no_limits : Own
+no_limits = record { idle_seconds = 0; bind_seconds = 0; write_seconds = 0; sessions = 0 }
+
+abbrev pub IsOwnUnder : Option Data → Result Own OwnFault → Type 0
+IsOwnUnder None result = result ≡ Ok no_limits
+IsOwnUnder (Some table) result = IsOwnIn table result
+
+-- What is read out of a text, or why not; of want of memory nothing is said.
+abbrev pub IsOwnOutcome : List ℕ → Result Own OwnFault → Type 0
+IsOwnOutcome octets (Err faults.NotToml) = (document : Data) → IsDocument octets document → ⊥
+IsOwnOutcome octets (Err faults.Memory) = Unit {0}
+IsOwnOutcome octets other = (document : Data) × IsDocument octets document × IsOwnUnder (get (codes "own") document) other
+
+abbrev pub OwnReadsNone : List ℕ → OwnFault → Type 0
+OwnReadsNone octets faults.NotToml = (document : Data) → IsDocument octets document → ⊥
+OwnReadsNone octets faults.NoTable = ⊥
+OwnReadsNone octets (faults.BadValue key) = ⊥
+OwnReadsNone octets faults.Memory = Unit {0}

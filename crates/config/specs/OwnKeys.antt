@@ -1,0 +1,17 @@
+-- The keys of the table `own` (own).
+use Rattle.std.specs.Prelude.{ℕ, List, codes}
+use Rattle.config.specs.declared.own_key.OwnKey.{OwnKey}
+use Rattle.config.specs.declared.own_key.OwnKey.TheVariants.{IdleSeconds, BindSeconds, WriteSeconds, Sessions}
+
+abbrev pub own_name : OwnKey → List ℕ
+own_name IdleSeconds = codes "idle_seconds"
+own_name BindSeconds = codes "bind_seconds"
+own_name WriteSeconds = codes "write_seconds"
+own_name Sessions = codes "sessions"
+
+-- the greatest value: a day in seconds, or so many sessions
+abbrev pub most_in : OwnKey → ℕ
+most_in IdleSeconds = 86400
+most_in BindSeconds = 86400
+most_in WriteSeconds = 86400
+most_in Sessions = 65535

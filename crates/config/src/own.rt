@@ -1,0 +1,83 @@
+//! The table `own` of a configuration.
+
+ghost use Rattle.std.specs.Prelude.{MatchResult};
+ghost use Rattle.toml.specs.View.{view};
+ghost use Rattle.config.specs.Own as spec;
+
+use crate::fault::ConfigFault;
+use crate::own_fault::OwnFault;
+use crate::own_key::OwnKey;
+use crate::reading::document_of;
+use crate::rows::as_number;
+use std::alloc::Global;
+use toml::Value;
+
+/// What the table `own` of a configuration says. Each number is 0 if the text does not say it, and stands for no limit then.
+#[derive(Clone, Copy, Debug, PartialEq, Eq)]
+pub struct Own {
+    /// After how many seconds without an octet a session is ended.
+    pub idle_seconds: u32,
+    /// After how many seconds without a bind a session is ended.
+    pub bind_seconds: u32,
+    /// How many seconds a write to a session may take.
+    pub write_seconds: u32,
+    /// How many sessions a node may have.
+    pub sessions: u32,
+}
+
+/// What the table `own` of a text says (TOML, UTF-8); no limits if there is none. `NotToml` only of what is no TOML; else `NoTable`, if something else stands
+/// there; else `BadValue`, with any of the keys whose value is no whole number from 0 to the greatest that it may have. Other keys are ignored. `Memory` is
+/// want of memory.
+pub fn read_own(alloc: Global, octets: &[u8]) -> Result<Own, OwnFault>
+    ensures { spec.IsOwnOutcome octets.now result }
+{
+    let document = table_of(alloc, octets)?;
+    match document.get("own") {
+        Some(table) => own_in(table),
+        None => Ok(Own {
+            idle_seconds: 0,
+            bind_seconds: 0,
+            write_seconds: 0,
+            sessions: 0,
+        }),
+    }
+}
+
+/// The table of a text.
+fn table_of(alloc: Global, octets: &[u8]) -> Result<Value, OwnFault>
+    ensures { MatchResult result (λ document. spec.IsDocument octets.now (view document)) (spec.OwnReadsNone octets.now) }
+{
+    match document_of(alloc, octets) {
+        Ok(document) => Ok(document),
+        Err(ConfigFault::NotToml) => Err(OwnFault::NotToml),
+        Err(_) => Err(OwnFault::Memory),
+    }
+}
+
+/// What a value under `own` says.
+fn own_in(table: &Value) -> Result<Own, OwnFault>
+    ensures { spec.IsOwnIn (view table.now) result }
+{
+    if !table.is_table() {
+        return Err(OwnFault::NoTable);
+    }
+    Ok(Own {
+        idle_seconds: limit(table, OwnKey::IdleSeconds)?,
+        bind_seconds: limit(table, OwnKey::BindSeconds)?,
+        write_seconds: limit(table, OwnKey::WriteSeconds)?,
+        sessions: limit(table, OwnKey::Sessions)?,
+    })
+}
+
+/// The limit under a key, 0 if there is none.
+fn limit(table: &Value, key: OwnKey) -> Result<u32, OwnFault>
+    ensures { spec.IsLimit (view table.now) key result }
+{
+    let Some(value) = table.get(key.name()) else {
+        return Ok(0);
+    };
+    match as_number(value) {
+        Some(number) if number <= u64::from(key.most()) => Ok(number as u32),
+        _ => Err(OwnFault::BadValue(key)),
+    }
+}
