@@ -31,7 +31,7 @@ const MOST_TRIES: u32 = 1_000_000;
 /// How many parts a ledger of slips has.
 const PARTS: u64 = 1_000_000;
 
-/// The hands of all threads, how many steps each hands in in each part that are taken, how many parts are left, and the entries of those that were closed.
+/// The hands of all threads, how many steps each hands in in each part that are taken, how many parts there are, and the entries of those that were closed.
 #[derive(Drop)]
 struct Work {
     hands: Vec<Hands>,
@@ -177,7 +177,7 @@ fn part<L: Begins + Send + Sync, R: Threads + Wait + Abort + Sync>(
     let mut work = Work {
         hands,
         steps,
-        parts: parts.saturating_sub(1),
+        parts,
         entries,
     };
     work.keep(rt, &journal);
@@ -185,7 +185,7 @@ fn part<L: Begins + Send + Sync, R: Threads + Wait + Abort + Sync>(
 }
 
 /// The entries of all parts, from new stores on.
-fn first_part<L: Begins + Send + Sync, R: Threads + Wait + Abort + Sync>(
+fn all_parts<L: Begins + Send + Sync, R: Threads + Wait + Abort + Sync>(
     rt: &R,
     alloc: Global,
     blank: Blank,
@@ -199,53 +199,42 @@ fn first_part<L: Begins + Send + Sync, R: Threads + Wait + Abort + Sync>(
     requires begin { AllBegin L.cluster L.kept nodes.items }
     requires count { length nodes.items ≡ L.cluster.nodes }
 {
+    let parts = work.parts;
     let cluster = Cluster::<UnsteadyStore, L>::start(alloc, blank, nodes).expect(rt, "a cluster");
-    let (journal, work) = part(rt, alloc, cluster, work);
-    others::<L, R>(rt, alloc, journal, work)
+    let (mut journal, mut work) = part(rt, alloc, cluster, work);
+    for _ in 1..parts {
+        if !journal.is_sound() {
+            panic!(rt; "no node is astray");
+        }
+        closed_journals_go_on::<UnsteadyStore>();
+        let next = Next {
+            blank: Blank::new(PARTS),
+            journal,
+        };
+        (journal, work) = next_part::<Brand, R>(rt, alloc, next, work);
+    }
+    work.entries
 }
 
-/// The entries of all parts, from one on that goes on where another was closed.
+/// A part that goes on where another was closed.
 fn next_part<L: Begins + Send + Sync, R: Threads + Wait + Abort + Sync>(
     rt: &R,
     alloc: Global,
     next: Next,
     work: Work,
-) -> Vec<Entry>
+) -> (Journal<UnsteadyStore>, Work)
     requires name { next.blank.name ≡ L.name }
     requires parts { next.blank.parts ≡ L.parts }
     requires all { next.blank.parts ≡ 1000000 }
     requires goes { GoesOn (λ store. stored_in store.store store.failed) L.cluster L.kept L.numbers next.journal }
+    ensures { IsClosed (λ store. stored_in store.store store.failed) L.cluster L.kept L.numbers result.0 }
 {
     let Next { blank, journal } = next;
     let from = work.first_left();
     let Ok(cluster) = Cluster::<UnsteadyStore, L>::go_on(alloc, blank, journal, from) else {
         panic!(rt; "it goes on");
     };
-    let (journal, work) = part(rt, alloc, cluster, work);
-    others::<L, R>(rt, alloc, journal, work)
-}
-
-/// The entries of all parts, once one was closed.
-fn others<L: Begins + Send + Sync, R: Threads + Wait + Abort + Sync>(
-    rt: &R,
-    alloc: Global,
-    journal: Journal<UnsteadyStore>,
-    work: Work,
-) -> Vec<Entry>
-    requires { IsClosed (λ store. stored_in store.store store.failed) L.cluster L.kept L.numbers journal }
-{
-    if work.parts == 0 {
-        return work.entries;
-    }
-    if !journal.is_sound() {
-        panic!(rt; "no node is astray");
-    }
-    closed_journals_go_on::<UnsteadyStore>();
-    let next = Next {
-        blank: Blank::new(PARTS),
-        journal,
-    };
-    next_part::<Brand, R>(rt, alloc, next, work)
+    part(rt, alloc, cluster, work)
 }
 
 /// The entries of a journal of nine nodes in so many parts, in each of which each thread hands in so many steps that are taken.
@@ -257,5 +246,5 @@ pub fn history<R: Threads + Wait + Abort + Sync>(
 ) -> Vec<Entry> {
     let (nodes, lives) = opened(rt, alloc);
     let work = Work::begin(rt, alloc, lives, parts, steps);
-    first_part::<Brand, R>(rt, alloc, Blank::new(PARTS), nodes, work)
+    all_parts::<Brand, R>(rt, alloc, Blank::new(PARTS), nodes, work)
 }

@@ -4,12 +4,12 @@ use Rattle.node_threads.specs.Openings.{cluster_of}
 use Rattle.journal_parts.specs.Numbers.{none_sent}
 use Rattle.journal_tests.proofs.history.history.Given as goal
 
-abbrev pub ghosts-first_part-L-Begins : goal.ghosts-first_part-L-Begins
-ghosts-first_part-L-Begins g a = record {
+abbrev pub ghosts-all_parts-L-Begins : goal.ghosts-all_parts-L-Begins
+ghosts-all_parts-L-Begins g a = record {
   cluster = cluster_of a.nodes.items 172800;
   kept = λ node. opened_new (setup_of (cluster_of a.nodes.items 172800) node);
   numbers = none_sent;
 }
 
-abbrev pub ghosts-first_part-L-Ledger : goal.ghosts-first_part-L-Ledger
-ghosts-first_part-L-Ledger g a = record { name = a.blank.name; parts = a.blank.parts }
+abbrev pub ghosts-all_parts-L-Ledger : goal.ghosts-all_parts-L-Ledger
+ghosts-all_parts-L-Ledger g a = record { name = a.blank.name; parts = a.blank.parts }
