@@ -82,7 +82,8 @@ fn queried<L: Begins, R: Wait + Abort>(
     seat: &mut Seat<L>,
 ) {
     let slip = asked(rt, alloc, cluster, seat, (2, "query"));
-    let _answered = settled_at(rt, cluster, seat, &[2, 3], slip.packets_before() + 1);
+    let from = slip.packets_before().checked_add(1).expect(rt, "a number");
+    let _answered = settled_at(rt, cluster, seat, &[2, 3], from);
 }
 
 impl<R: Wait + Abort> Play<R> for HeldDelivery {

@@ -65,7 +65,8 @@ fn queried<L: Begins, R: Wait + Abort>(
 ) {
     let _accepted = handed.wait(rt);
     let slip = asked(rt, alloc, cluster, seat, (2, "query"));
-    let _answered = settled_at(rt, cluster, seat, &[1, 2, 3], slip.packets_before() + 1);
+    let from = slip.packets_before().checked_add(1).expect(rt, "a number");
+    let _answered = settled_at(rt, cluster, seat, &[1, 2, 3], from);
 }
 
 /// A message is asked for at another node once it was accepted: what is handed over is the slip with its ESME_ROK.

@@ -17,5 +17,5 @@ pushed true stores one after is all new = λ store among. elim (in_two store sto
 ]
 pushed false stores one after is all new = λ store among. all store (subst (λ (ss : List UnsteadyStore). In store ss) is among)
 
-pub loop-preserved : goal.loop-preserved
-loop-preserved g c = pushed _ c.loop.stores.items c.make.result c.push-put.new.self.items c.push-put.ensures.items c.loop.invariant c.make.ensures
+pub loop-place-preserved : goal.loop-place-preserved
+loop-place-preserved g c = pushed _ c.loop-place.stores.items c.make.result c.push-put.new.self.items c.push-put.ensures.items c.loop-place.invariant c.make.ensures

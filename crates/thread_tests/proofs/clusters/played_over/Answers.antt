@@ -5,4 +5,5 @@ use Rattle.node_crossing.proofs.Clusters.{cluster_sync}
 use Rattle.thread_tests.proofs.clusters.played_over.Goals as goal
 
 pub for_each_mut-requires-sync-F : goal.for_each_mut-requires-sync-F
-for_each_mut-requires-sync-F g c κs within = search (sendable, heap.the_sync, list.the_send, list.the_sync, cluster_sync) depth 60
+for_each_mut-requires-sync-F g c κs within =
+    search (sendable, heap.the_sync, list.the_send, list.the_sync, cluster_sync, c.type_bounds) depth 60
