@@ -1,114 +1,156 @@
 //! Workers that deliver messages of one node.
 
-use crate::clusters::{Hand, Play, asked, played, ticked};
-use crate::events::{Event, events_in};
+ghost use Rattle.std.specs.Prelude.{◌≡◌, None};
+ghost use Rattle.mc_model.specs.message.Ids.{IsNode};
+ghost use Rattle.node_core.specs.Setups.{IsSetup};
+ghost use Rattle.journal_parts.specs.Members.{IsBeginning};
+ghost use Rattle.journal_parts.specs.Numbers.{none_sent};
+
+use crate::clusters::{closed, closed_by_two};
 use crate::gates::{Esme, PlayedGate};
 use crate::same::assert_same;
-use crate::tables::{first, settled};
-use fate_chain::Final;
-use node_threads::{Begins, Cluster, Seat};
+use crate::tables::{PARTS, first, opened, settled};
+use delivery::Outcome;
+use lines_of_tests::{account, request};
+use mc_types::Moment;
+use node_core::{Life, Node};
+use node_threads::{Action, Begins, Cluster, Entry, Journal, Seat};
 use node_workers::{hint, worker};
 use stable_store::ListStore;
 use std::alloc::Global;
+use std::marker::Brand;
 use std::process::Abort;
 use std::sync::Wait;
+use std::sync::ledger::Blank;
+use std::thread;
 use std::thread::Threads;
-use worker_parts::{Gate, Hints};
+use worker_parts::Hints;
+use world::Step;
 
-/// Hands in two submit_sms, has them taken, and has an attempt of each chosen; then hints at them, and shuts the hints.
+/// A node that opened, and a ledger for its slips.
+struct Opened {
+    blank: Blank,
+    node: Node<ListStore>,
+    life: Life,
+}
+
+fn opened_now(rt: &impl Abort, alloc: Global) -> Opened
+    ensures parts { result.blank.parts ≡ 1000000 }
+    ensures node { IsNode result.node.kept.setup.node }
+    ensures setup { IsSetup result.node.kept.setup }
+    ensures alone { result.node.kept.setup.nodes ≡ 1 }
+    ensures finished { result.node.unfinished ≡ None }
+{
+    let (node, life) = opened(rt, alloc);
+    Opened {
+        blank: Blank::new(PARTS),
+        node,
+        life,
+    }
+}
+
+/// Hands in so many submit_sms, has them taken, and has an attempt of each chosen.
 fn handed_in<L: Begins, R: Wait + Abort>(
     rt: &R,
     alloc: Global,
     cluster: &Cluster<ListStore, L>,
     seat: &mut Seat<L>,
-    hints: &Hints,
+    messages: u32,
 ) {
-    for _ in 0..2u32 {
-        let slip = asked(rt, alloc, cluster, seat, (1, "submit_with_receipt"));
-        drop(slip);
+    for _ in 0..messages {
+        let submit = Action::Request {
+            node: first(rt),
+            account: account(alloc).expect(rt, "an account"),
+            request: request(alloc, "submit_with_receipt").expect(rt, "a request"),
+        };
+        drop(cluster.act(rt, seat, submit).expect(rt, "a slip"));
     }
     let taken = settled(rt, cluster, seat, 1);
-    drop(ticked(rt, alloc, cluster, seat, 1));
+    let mut up = Vec::new(alloc);
+    up.push(account(alloc).expect(rt, "an account"))
+        .expect(rt, "memory");
+    let tick = Action::Tick {
+        node: first(rt),
+        moment: Moment::least(),
+        up,
+    };
+    drop(cluster.act(rt, seat, tick).expect(rt, "a slip"));
     let _chosen = settled(rt, cluster, seat, taken);
-    hint(cluster, rt, first(rt), hints).expect(rt, "a node");
-    hints.shut(rt);
 }
 
-/// Has the first node's worker deliver through a gate what it hears of.
-pub fn worked<L: Begins, R: Wait + Abort, G: Gate<R>>(
-    rt: &R,
-    cluster: &Cluster<ListStore, L>,
-    hand: &mut Hand<L>,
-    hints: &Hints,
-    gate: &mut G,
-) {
-    let life = hand.lives.get(0).expect(rt, "a life");
-    worker(cluster, rt, &mut hand.seat, life, hints, gate).expect(rt, "no refusal");
-}
-
-/// A worker hears of two messages, through a gate to this ESME.
-#[derive(Drop)]
-struct Through {
-    esme: Esme,
-}
-
-impl<R: Wait + Abort> Play<R> for Through {
-    fn play<L: Begins>(
-        &self,
-        rt: &R,
-        alloc: Global,
-        cluster: &Cluster<ListStore, L>,
-        hand: &mut Hand<L>,
-    ) {
-        let hints = Hints::make(alloc, 10).expect(rt, "hints");
-        handed_in(rt, alloc, cluster, &mut hand.seat, &hints);
-        let mut gate = PlayedGate { esme: self.esme };
-        worked(rt, cluster, hand, &hints, &mut gate);
+/// The outcome of an attempt that an entry has, if it is of one.
+fn outcome_in(entry: &Entry) -> Option<Outcome> {
+    match entry.done.step {
+        Step::Answered { outcome, .. } => Some(outcome),
+        _ => None,
     }
 }
 
-/// What the journal tells of two messages of which a worker hears, through a gate to this ESME.
-pub fn events_through<R: Threads + Wait + Abort + Sync>(
-    rt: &R,
-    alloc: Global,
-    esme: Esme,
-) -> Vec<Event> {
-    let journal = played(rt, alloc, 1, 1, &Through { esme });
-    events_in(rt, alloc, &journal)
-}
-
-/// What came of attempts, of all that a journal tells.
-fn concluded(rt: &impl Abort, alloc: Global, events: &[Event]) -> Vec<Event> {
-    let mut concluded = Vec::new(alloc);
-    for event in events {
-        if let Event::Ended(_) | Event::Failed(_) = event {
-            concluded.push(*event).expect(rt, "memory");
+/// The outcomes of attempts that a journal has, in their order.
+fn outcomes(rt: &impl Abort, alloc: Global, journal: &Journal<ListStore>) -> Vec<Outcome> {
+    let mut outcomes = Vec::new(alloc);
+    for place in 0..journal.len() {
+        if let Some(outcome) = journal.entry(place + 1).and_then(|entry| outcome_in(entry)) {
+            outcomes.push(outcome).expect(rt, "memory");
         }
     }
-    concluded
+    outcomes
 }
 
-/// What comes of the attempts of such a worker.
-fn concluded_through<R: Threads + Wait + Abort + Sync>(
+/// What comes of two messages of which a worker hears, through a gate to this ESME.
+fn worked<L: Begins, R: Wait + Abort>(
     rt: &R,
     alloc: Global,
+    opened: Opened,
     esme: Esme,
-) -> Vec<Event> {
-    let events = events_through(rt, alloc, esme);
-    concluded(rt, alloc, events.as_slice())
+) -> Vec<Outcome>
+    requires name { opened.blank.name ≡ L.name }
+    requires parts { opened.blank.parts ≡ L.parts }
+    requires all { opened.blank.parts ≡ 1000000 }
+    requires numbers { L.numbers ≡ none_sent }
+    requires begins { IsBeginning L.cluster L.kept opened.node }
+    requires alone { L.cluster.nodes ≡ 1 }
+{
+    let Opened { blank, node, life } = opened;
+    let mut nodes = Vec::new(alloc);
+    nodes.push(node).expect(rt, "memory");
+    let cluster = Cluster::<ListStore, L>::start(alloc, blank, nodes).expect(rt, "a cluster");
+    let mut seat = cluster.seat(rt).expect(rt, "a seat");
+    let hints = Hints::make(alloc, 10).expect(rt, "hints");
+    handed_in(rt, alloc, &cluster, &mut seat, 2);
+    hint(&cluster, rt, first(rt), &hints).expect(rt, "a node");
+    hints.shut(rt);
+    let mut gate = PlayedGate { esme };
+    worker(&cluster, rt, &mut seat, &life, &hints, &mut gate).expect(rt, "no refusal");
+    let mut seats = Vec::new(alloc);
+    seats.push(seat).expect(rt, "memory");
+    outcomes(rt, alloc, &closed(rt, cluster, seats))
+}
+
+fn outcomes_through<R: Wait + Abort>(rt: &R, alloc: Global, esme: Esme) -> Vec<Outcome> {
+    worked::<Brand, R>(rt, alloc, opened_now(rt, alloc), esme)
 }
 
 #[test]
 fn what_the_gate_gave_is_handed_in(rt: HostRuntime) {
-    let ready = concluded_through(&rt, rt.alloc(), Esme::Ready);
+    let alloc = rt.alloc();
+    let silent = outcomes_through(&rt, alloc, Esme::Silent);
+    let strange = outcomes_through(&rt, alloc, Esme::Numbered(9));
+    let ready = outcomes_through(&rt, alloc, Esme::Ready);
+    assert_same(
+        &rt,
+        &silent.as_slice(),
+        &[Outcome::unanswered(), Outcome::unanswered()].as_slice(),
+    );
+    assert_same(
+        &rt,
+        &strange.as_slice(),
+        &[Outcome::unanswered(), Outcome::unanswered()].as_slice(),
+    );
     assert_same(
         &rt,
         &ready.as_slice(),
-        &[
-            Event::Ended(Final::Delivered),
-            Event::Ended(Final::Delivered),
-        ]
-        .as_slice(),
+        &[Outcome::Delivered, Outcome::Delivered].as_slice(),
     );
 }
 
@@ -116,57 +158,70 @@ fn what_the_gate_gave_is_handed_in(rt: HostRuntime) {
 #[test]
 fn a_workers_octets_are_numbered(rt: HostRuntime) {
     let alloc = rt.alloc();
-    let one = concluded_through(&rt, alloc, Esme::Numbered(1));
-    let two = concluded_through(&rt, alloc, Esme::Numbered(2));
+    let one = outcomes_through(&rt, alloc, Esme::Numbered(1));
+    let two = outcomes_through(&rt, alloc, Esme::Numbered(2));
     assert_same(
         &rt,
         &one.as_slice(),
-        &[Event::Ended(Final::Delivered), Event::Failed(997)].as_slice(),
+        &[Outcome::Delivered, Outcome::unanswered()].as_slice(),
     );
     assert_same(
         &rt,
         &two.as_slice(),
-        &[Event::Failed(997), Event::Ended(Final::Delivered)].as_slice(),
+        &[Outcome::unanswered(), Outcome::Delivered].as_slice(),
     );
 }
 
-/// A worker waits for two messages that another thread hands in.
-#[derive(Drop)]
-struct Beside {
-    hints: Hints,
+/// Hands in two messages, hints at them, and shuts the hints.
+fn handed_in_and_shut<L: Begins, R: Wait + Abort>(
+    rt: &R,
+    alloc: Global,
+    cluster: &Cluster<ListStore, L>,
+    seat: &mut Seat<L>,
+    hints: &Hints,
+) {
+    handed_in(rt, alloc, cluster, seat, 2);
+    hint(cluster, rt, first(rt), hints).expect(rt, "a node");
+    hints.shut(rt);
 }
 
-impl<R: Wait + Abort> Play<R> for Beside {
-    fn play<L: Begins>(
-        &self,
-        rt: &R,
-        alloc: Global,
-        cluster: &Cluster<ListStore, L>,
-        hand: &mut Hand<L>,
-    ) {
-        if hand.number == 0 {
-            let mut gate = PlayedGate { esme: Esme::Ready };
-            worked(rt, cluster, hand, &self.hints, &mut gate);
-        } else {
-            handed_in(rt, alloc, cluster, &mut hand.seat, &self.hints);
-        }
-    }
+/// What comes of two messages that another thread hands in while a worker waits for them.
+fn worked_beside<L: Begins + Send + Sync, R: Threads + Wait + Abort + Sync>(
+    rt: &R,
+    alloc: Global,
+    opened: Opened,
+) -> Vec<Outcome>
+    requires name { opened.blank.name ≡ L.name }
+    requires parts { opened.blank.parts ≡ L.parts }
+    requires all { opened.blank.parts ≡ 1000000 }
+    requires numbers { L.numbers ≡ none_sent }
+    requires begins { IsBeginning L.cluster L.kept opened.node }
+    requires alone { L.cluster.nodes ≡ 1 }
+{
+    let Opened { blank, node, life } = opened;
+    let mut nodes = Vec::new(alloc);
+    nodes.push(node).expect(rt, "memory");
+    let cluster = Cluster::<ListStore, L>::start(alloc, blank, nodes).expect(rt, "a cluster");
+    let mut seat = cluster.seat(rt).expect(rt, "a seat");
+    let mut other = cluster.seat(rt).expect(rt, "a seat");
+    let hints = Hints::make(alloc, 10).expect(rt, "hints");
+    let mut gate = PlayedGate { esme: Esme::Ready };
+    let ((), worked) = thread::join(
+        rt,
+        || handed_in_and_shut(rt, alloc, &cluster, &mut other, &hints),
+        || worker(&cluster, rt, &mut seat, &life, &hints, &mut gate),
+    );
+    worked.expect(rt, "no refusal");
+    outcomes(rt, alloc, &closed_by_two(rt, alloc, cluster, seat, other))
 }
 
 #[test]
 fn a_worker_delivers_what_another_thread_hands_in(rt: HostRuntime) {
     let alloc = rt.alloc();
-    let hints = Hints::make(alloc, 10).expect(&rt, "hints");
-    let journal = played(&rt, alloc, 1, 2, &Beside { hints });
-    let events = events_in(&rt, alloc, &journal);
-    let concluded = concluded(&rt, alloc, events.as_slice());
+    let outcomes = worked_beside::<Brand, HostRuntime>(&rt, alloc, opened_now(&rt, alloc));
     assert_same(
         &rt,
-        &concluded.as_slice(),
-        &[
-            Event::Ended(Final::Delivered),
-            Event::Ended(Final::Delivered),
-        ]
-        .as_slice(),
+        &outcomes.as_slice(),
+        &[Outcome::Delivered, Outcome::Delivered].as_slice(),
     );
 }

@@ -4,6 +4,8 @@
 #[cfg(test)]
 mod all_slips;
 #[cfg(test)]
+mod closings;
+#[cfg(test)]
 mod clusters;
 #[cfg(test)]
 mod deliveries;
@@ -18,8 +20,6 @@ mod lives;
 #[cfg(test)]
 mod many_parts;
 #[cfg(test)]
-mod missing_seat;
-#[cfg(test)]
 mod next_parts;
 #[cfg(test)]
 mod openings;
@@ -29,8 +29,6 @@ mod parts;
 mod read_back;
 #[cfg(test)]
 mod same;
-#[cfg(test)]
-mod silent_gate;
 #[cfg(test)]
 mod tables;
 #[cfg(test)]

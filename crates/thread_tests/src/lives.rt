@@ -4,13 +4,13 @@ ghost use Rattle.std.specs.Prelude.{◌≡◌};
 ghost use Rattle.journal_parts.specs.Members.{IsBeginning};
 ghost use Rattle.journal_parts.specs.Numbers.{none_sent};
 
-use crate::clusters::{asked, ticked};
 use crate::same::assert_same;
-use crate::tables::{PARTS, opened, settled};
+use crate::tables::{PARTS, first, opened, settled};
 use delivery::Outcome;
-use lines_of_tests::first_id;
+use lines_of_tests::{account, first_id, request};
+use mc_types::Moment;
 use node_core::{Life, Node};
-use node_threads::{Begins, Cluster, Seat};
+use node_threads::{Action, Begins, Cluster, Seat};
 use stable_store::ListStore;
 use std::alloc::Global;
 use std::marker::Brand;
@@ -25,7 +25,12 @@ pub fn submitted<L: Begins, R: Wait + Abort>(
     cluster: &Cluster<ListStore, L>,
     seat: &mut Seat<L>,
 ) {
-    drop(asked(rt, alloc, cluster, seat, (1, "submit_with_receipt")));
+    let submit = Action::Request {
+        node: first(rt),
+        account: account(alloc).expect(rt, "an account"),
+        request: request(alloc, "submit_with_receipt").expect(rt, "a request"),
+    };
+    drop(cluster.act(rt, seat, submit).expect(rt, "a slip"));
 }
 
 /// Hands in a tick at which sme1 is up.
@@ -35,7 +40,15 @@ pub fn attempted<L: Begins, R: Wait + Abort>(
     cluster: &Cluster<ListStore, L>,
     seat: &mut Seat<L>,
 ) {
-    drop(ticked(rt, alloc, cluster, seat, 1));
+    let mut up = Vec::new(alloc);
+    up.push(account(alloc).expect(rt, "an account"))
+        .expect(rt, "memory");
+    let tick = Action::Tick {
+        node: first(rt),
+        moment: Moment::least(),
+        up,
+    };
+    drop(cluster.act(rt, seat, tick).expect(rt, "a slip"));
 }
 
 /// Has the attempt granted, and delivered.

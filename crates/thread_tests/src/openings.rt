@@ -9,13 +9,15 @@ ghost use Rattle.node_threads.specs.Actions.{AllBegin};
 ghost use Rattle.node_threads.specs.Openings.{AreNew, cluster_of};
 ghost use Rattle.journal_parts.specs.Numbers.{none_sent};
 
-use crate::clusters::{numbered, settled_at};
 use crate::lives::submitted;
 use crate::same::assert_same;
 use crate::tables::{PARTS, VALIDITY};
 use journal_laws::nodes_that_open_begin_a_journal;
+use mc_types::NodeNo;
 use node_core::{Life, Node};
-use node_threads::{Begins, Cluster, StartFault, open_nodes, opened_nodes_begin};
+use node_threads::{
+    Action, Begins, Cluster, Refusal, Seat, StartFault, open_nodes, opened_nodes_begin,
+};
 use stable_store::{ListStore, StableStore, StoreFault};
 use std::alloc::Global;
 use std::marker::Brand;
@@ -51,6 +53,32 @@ pub fn over_new_stores(
     }
 }
 
+fn numbered(rt: &impl Abort, number: u64) -> NodeNo {
+    lines_of_tests::node(number).expect(rt, "a node")
+}
+
+/// Whether there is a packet with this number, which comes to each of the three then.
+fn came<L: Begins, R: Wait + Abort>(
+    rt: &R,
+    cluster: &Cluster<ListStore, L>,
+    seat: &mut Seat<L>,
+    number: u64,
+) -> bool {
+    for node in 1..4 {
+        let node = numbered(rt, node);
+        match cluster.act(rt, seat, Action::Deliver { number, node }) {
+            Ok(slip) => drop(slip),
+            Err(refusal) => {
+                if refusal != Refusal::NoSuchPacket {
+                    panic!(rt; "no other refusal");
+                }
+                return false;
+            }
+        }
+    }
+    true
+}
+
 /// The number of the first packet that is missing, once node 1 was handed a message, and each packet came to each of the three.
 fn taken<L: Begins, R: Wait + Abort>(
     rt: &R,
@@ -69,7 +97,14 @@ fn taken<L: Begins, R: Wait + Abort>(
     let cluster = Cluster::<ListStore, L>::start(alloc, blank, nodes).expect(rt, "a cluster");
     let mut seat = cluster.seat(rt).expect(rt, "a seat");
     submitted(rt, alloc, &cluster, &mut seat);
-    settled_at(rt, &cluster, &mut seat, &[1, 2, 3], 1)
+    let mut number = 1u64;
+    for _ in 0..100u32 {
+        if !came(rt, &cluster, &mut seat, number) {
+            break;
+        }
+        number = number.checked_add(1).expect(rt, "a number");
+    }
+    number
 }
 
 /// The Prepare of a round of three nodes comes to each, which promises; at the second Promise node 1 proposes, and each node votes: eight packets.

@@ -4,10 +4,9 @@ ghost use Rattle.std.specs.Prelude.{◌≡◌, None};
 ghost use Rattle.mc_model.specs.message.Ids.{IsNode};
 ghost use Rattle.node_core.specs.Setups.{IsSetup};
 
-use crate::clusters::{numbered, settled_at};
 use mc_types::NodeNo;
 use node_core::{Life, Node, Setup, open_node};
-use node_threads::{Begins, Cluster, Seat};
+use node_threads::{Action, Begins, Cluster, Refusal, Seat};
 use stable_store::ListStore;
 use std::alloc::Global;
 use std::process::Abort;
@@ -21,7 +20,7 @@ pub const VALIDITY: u32 = 172800;
 
 /// The one node.
 pub fn first(rt: &impl Abort) -> NodeNo {
-    numbered(rt, 1)
+    lines_of_tests::node(1).expect(rt, "a node")
 }
 
 /// It opens alone over a new store.
@@ -48,5 +47,21 @@ pub fn settled<L: Begins, R: Wait + Abort>(
     seat: &mut Seat<L>,
     from: u64,
 ) -> u64 {
-    settled_at(rt, cluster, seat, &[1], from)
+    let mut number = from;
+    for _ in 0..100u32 {
+        let node = first(rt);
+        match cluster.act(rt, seat, Action::Deliver { number, node }) {
+            Ok(slip) => {
+                drop(slip);
+                number = number.checked_add(1).expect(rt, "a number");
+            }
+            Err(refusal) => {
+                if refusal != Refusal::NoSuchPacket {
+                    panic!(rt; "no other refusal");
+                }
+                break;
+            }
+        }
+    }
+    number
 }

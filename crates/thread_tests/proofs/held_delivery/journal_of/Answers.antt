@@ -1,0 +1,10 @@
+use denote.Param.Send.{sendable}
+use Rattle.std.proofs.alloc.Global.TheSendSync as heap
+use Rattle.stable_store.proofs.list.ListStore.TheSendSync as list
+use Rattle.journal_parts.proofs.seat.Seat.TheSendSync as seat
+use Rattle.thread_tests.proofs.held_delivery.Signs.TheSendSync as signs
+use Rattle.node_crossing.proofs.Clusters.{cluster_sync}
+use Rattle.thread_tests.proofs.held_delivery.journal_of.Goals as goal
+
+pub join-worked-requires-send-F : goal.join-worked-requires-send-F
+join-worked-requires-send-F g c κs within = search (sendable, heap.the_sync, list.the_send, list.the_sync, seat.the_send, signs.the_sync, cluster_sync) depth 60
