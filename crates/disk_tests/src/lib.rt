@@ -1,4 +1,5 @@
-//! Tests of nodes over stores on disk, alone and together. The crates tested have none of their own, so that they are proved once.
+//! Tests of nodes over stores on disk, alone and together, and over those that a path opens. The crates tested have none of their own, so that they are proved
+//! once.
 #![tactic(auto)]
 
 #[cfg(test)]
@@ -9,6 +10,8 @@ mod lines;
 mod member;
 #[cfg(test)]
 mod on_disk;
+#[cfg(test)]
+mod opened;
 #[cfg(test)]
 mod rows;
 #[cfg(test)]

@@ -12,13 +12,13 @@ use std::alloc::Global;
 use std::process::Abort;
 
 // That of one of so many nodes, whose messages are valid for so many seconds.
-fn set_up(rt: &impl Abort, number: u64, nodes: u8, validity: u32) -> Setup {
+pub fn set_up(rt: &impl Abort, number: u64, nodes: u8, validity: u32) -> Setup {
     let number = node(number).expect(rt, "a node");
     Setup::make(number, nodes, 1, validity).expect(rt, "a setup")
 }
 
 // That a node which opens over a store answers as the rows of a part say. The store, once it has stopped.
-fn walked<S: StableStore + Drop>(
+pub fn walked<S: StableStore + Drop>(
     rt: &impl Abort,
     alloc: Global,
     store: S,

@@ -1,0 +1,6 @@
+//! A node's store, on disk or in memory.
+#![tactic(auto)]
+
+mod store;
+
+pub use store::NodeStore;
