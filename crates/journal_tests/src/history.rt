@@ -25,6 +25,9 @@ use std::thread::Threads;
 /// How many threads hand in steps.
 const THREADS: usize = 8;
 
+/// In how many rounds they do so: each waits at the end of a round for the others, so that none is far ahead.
+const ROUNDS: u32 = 100;
+
 /// How often each of them tries to hand one in at most, since what is handed in may be refused.
 const MOST_TRIES: u32 = 1_000_000;
 
@@ -131,7 +134,7 @@ fn risen<L: Begins>(
     (seats, hands)
 }
 
-/// Hands in steps by lot, as one of the threads, until so many were taken.
+/// Hands in steps by lot, as one of the threads, until so many were taken in all.
 fn handed_in<L: Begins, R: Wait + Abort>(
     rt: &R,
     alloc: Global,
@@ -163,12 +166,15 @@ fn part<L: Begins + Send + Sync, R: Threads + Wait + Abort + Sync>(
         entries,
     } = work;
     let mut all = seated(rt, alloc, &cluster, hands);
-    thread::for_each_mut(
-        rt,
-        all.as_mut_slice(),
-        THREADS,
-        &|_, seated| { handed_in(rt, alloc, &cluster, seated, steps) },
-    );
+    for round in 0..ROUNDS {
+        let taken = (round + 1).saturating_mul(steps / ROUNDS);
+        thread::for_each_mut(
+            rt,
+            all.as_mut_slice(),
+            THREADS,
+            &|_, seated| { handed_in(rt, alloc, &cluster, seated, taken) },
+        );
+    }
     let (seats, hands) = risen(rt, alloc, all);
     let journal = match cluster.close(seats) {
         Ok(journal) => journal,

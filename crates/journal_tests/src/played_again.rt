@@ -1,7 +1,7 @@
 //! Long journals of steps by lot, handed in by threads at once: they are played again by a world, and read.
 
 use crate::history::history;
-use crate::reader::{Looks, Reader};
+use crate::reader::Reader;
 use crate::replays::same;
 use crate::same::assert_same;
 use node_core::Found;
@@ -22,29 +22,22 @@ fn unfinished(entries: &[Entry], found: Found) -> usize {
     count
 }
 
-/// What a reader looked at, who finds nothing wrong.
-fn looks(rt: &impl Abort, alloc: Global, entries: &[Entry]) -> Looks {
+/// A reader finds nothing wrong.
+fn assert_nothing_wrong(rt: &impl Abort, alloc: Global, entries: &[Entry]) {
     let mut reader = Reader::new(alloc);
     for entry in entries {
         reader.read(rt, entry);
     }
     assert_same(rt, &reader.wrong.first().copied(), &None);
-    reader.looks
 }
 
-/// Nothing is wrong with at least so many entries, and there is enough in them to look at.
+/// Nothing is wrong with at least so many entries, some of which name an unfinished save.
 fn stands(rt: &impl Abort, alloc: Global, entries: &[Entry], least: usize) {
     assert!(rt; entries.len() >= least);
     assert!(rt; unfinished(entries, Found::Before) >= 3);
     assert!(rt; unfinished(entries, Found::After) >= 3);
     assert_same(rt, &same(rt, alloc, entries), &entries.len());
-    let looks = looks(rt, alloc, entries);
-    assert!(rt; looks.fates > 0);
-    assert!(rt; looks.cancels > 0);
-    assert!(rt; looks.grants > 0);
-    assert!(rt; looks.deliveries > 0);
-    assert!(rt; looks.queries > 0);
-    assert!(rt; looks.accepted > 0);
+    assert_nothing_wrong(rt, alloc, entries);
 }
 
 #[test]
