@@ -50,6 +50,6 @@ fn a_long_journal_stands(rt: HostRuntime) {
 #[test]
 fn a_journal_in_five_parts_stands(rt: HostRuntime) {
     let alloc = rt.alloc();
-    let entries = history(&rt, alloc, 5, 1_000);
-    stands(&rt, alloc, entries.as_slice(), 40_000);
+    let entries = history(&rt, alloc, 5, 2_500);
+    stands(&rt, alloc, entries.as_slice(), 100_000);
 }
