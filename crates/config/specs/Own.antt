@@ -14,32 +14,32 @@ use Rattle.config.specs.Rows.{is_table}
 
 -- a key has a value that it may have, or none
 abbrev pub IsFitOwn : Data → OwnKey → Type 0
-IsFitOwn table key = IfSome (get (own_name key) table) (IsNumberOf 0 (most_in key))
+IsFitOwn row key = IfSome (get (own_name key) row) (IsNumberOf 0 (most_in key))
 
 -- what stands under a key; 0 if nothing does
 abbrev pub limit_at : Data → OwnKey → ℕ
-limit_at table key = number_at 0 (own_name key) table
+limit_at row key = number_at 0 (own_name key) row
 
 abbrev pub own_at : Data → Own
-own_at table = record {
-  idle_seconds = limit_at table IdleSeconds;
-  bind_seconds = limit_at table BindSeconds;
-  write_seconds = limit_at table WriteSeconds;
-  sessions = limit_at table Sessions;
+own_at row = record {
+  idle_seconds = limit_at row IdleSeconds;
+  bind_seconds = limit_at row BindSeconds;
+  write_seconds = limit_at row WriteSeconds;
+  sessions = limit_at row Sessions;
 }
 
 -- what a key of a table says, or why not
 abbrev pub IsLimit : Data → OwnKey → Result ℕ OwnFault → Type 0
-IsLimit table key (Ok number) = IsFitOwn table key × (number ≡ limit_at table key)
-IsLimit table key (Err fault) = (¬ IsFitOwn table key) × (fault ≡ faults.BadValue key)
+IsLimit row key (Ok number) = IsFitOwn row key × (number ≡ limit_at row key)
+IsLimit row key (Err fault) = (¬ IsFitOwn row key) × (fault ≡ faults.BadValue key)
 
 -- what a value under `own` says, or why not
 abbrev pub IsOwnIn : Data → Result Own OwnFault → Type 0
-IsOwnIn table (Ok own) = (is_table table ≡ true) × ((key : OwnKey) → IsFitOwn table key) × (own ≡ own_at table)
-IsOwnIn table (Err faults.NotToml) = ⊥
-IsOwnIn table (Err faults.NoTable) = is_table table ≡ false
-IsOwnIn table (Err (faults.BadValue key)) = (is_table table ≡ true) × (¬ IsFitOwn table key)
-IsOwnIn table (Err faults.Memory) = ⊥
+IsOwnIn row (Ok own) = (is_table row ≡ true) × ((key : OwnKey) → IsFitOwn row key) × (own ≡ own_at row)
+IsOwnIn row (Err faults.NotToml) = ⊥
+IsOwnIn row (Err faults.NoTable) = is_table row ≡ false
+IsOwnIn row (Err (faults.BadValue key)) = (is_table row ≡ true) × (¬ IsFitOwn row key)
+IsOwnIn row (Err faults.Memory) = ⊥
 
 -- nothing under `own` is no limit
 abbrev pub no_limits : Own
@@ -47,7 +47,7 @@ no_limits = record { idle_seconds = 0; bind_seconds = 0; write_seconds = 0; sess
 
 abbrev pub IsOwnUnder : Option Data → Result Own OwnFault → Type 0
 IsOwnUnder None result = result ≡ Ok no_limits
-IsOwnUnder (Some table) result = IsOwnIn table result
+IsOwnUnder (Some row) result = IsOwnIn row result
 
 -- What is read out of a text, or why not; of want of memory nothing is said.
 abbrev pub IsOwnOutcome : List ℕ → Result Own OwnFault → Type 0
