@@ -12,7 +12,7 @@ use crate::rows::as_number;
 use std::alloc::Global;
 use toml::Value;
 
-/// What the table `own` of a configuration says. Each number is 0 if the text does not say it, and stands for no limit then.
+/// What the table `own` of a configuration says. Each number is 0 if the text does not say it: who serves by it says what limit there is then, if any.
 #[derive(Clone, Copy, Debug, PartialEq, Eq)]
 pub struct Own {
     /// After how many seconds without an octet a session is ended.
@@ -25,7 +25,7 @@ pub struct Own {
     pub sessions: u32,
 }
 
-/// What the table `own` of a text says (TOML, UTF-8); no limits if there is none. `NotToml` only of what is no TOML; else `NoTable`, if something else stands
+/// What the table `own` of a text says (TOML, UTF-8); 0 for each key if there is none. `NotToml` only of what is no TOML; else `NoTable`, if something else stands
 /// there; else `BadValue`, with any of the keys whose value is no whole number from 0 to the greatest that it may have. Other keys are ignored. `Memory` is
 /// want of memory.
 pub fn read_own(alloc: Global, octets: &[u8]) -> Result<Own, OwnFault>

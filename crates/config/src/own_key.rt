@@ -5,7 +5,7 @@ ghost use Rattle.config.specs.OwnKeys.{most_in, own_name};
 
 use std::fmt;
 
-/// A key of the table `own`, which SMPP 3.4 knows nothing of. Each is a number, and 0, the default, stands for no limit.
+/// A key of the table `own`, which SMPP 3.4 knows nothing of. Each is a number, and 0 is the default: the limit of who serves, if there is one.
 #[derive(Clone, Copy, Debug, PartialEq, Eq)]
 pub enum OwnKey {
     /// After how many seconds without an octet a session is ended, at most 86,400.

@@ -1,12 +1,13 @@
 -- The sessions that are connected, by their numbers: one begins, is served, and goes (own).
-use Rattle.std.specs.Prelude.{ℕ, List, Option, Some, None, if◌then◌else◌}
+use Rattle.std.specs.Prelude.{ℕ, List, Option, Some, None, option_map, if◌then◌else◌}
 use Rattle.std.specs.Ordering.{nat_cmp}
 use Rattle.std.specs.Map.{remove_entry, set_value}
 use Rattle.std.specs.BTreeMap.{is_at, insert_entry}
 use Rattle.sessions.specs.Session.{Session}
 use Rattle.sessions.specs.States.{is_gone}
-use Rattle.sessions.specs.Steps.{on_wait}
+use Rattle.sessions.specs.Steps.{on_answer, on_wait}
 use Rattle.sessions.specs.Steps as sessions
+use Rattle.sessions.specs.declared.pushed.Pushed.{Pushed}
 use Rattle.sessions.specs.declared.requested.Requested.{Requested}
 use Rattle.esme_service.specs.Pushes.{session_at}
 
@@ -41,6 +42,26 @@ waits_if connected number requested sequence ticket (Some session) =
 -- it waits on the session of a number, if that is connected
 abbrev pub waits_at : List (ℕ × Session) → ℕ → Requested → ℕ → Option ℕ → List (ℕ × Session)
 waits_at connected number requested sequence ticket = waits_if connected number requested sequence ticket (session_at connected number)
+
+-- ---- what was pushed, and is not sent
+
+abbrev pub takes_back_if : List (ℕ × Session) → ℕ → ℕ → Option Session → List (ℕ × Session)
+takes_back_if connected number sequence None = connected
+takes_back_if connected number sequence (Some session) = set_value (is_at (nat_cmp number)) connected (on_answer session sequence).next
+
+-- what was pushed with this sequence_number leaves the window of the session of a number, if that is connected
+abbrev pub takes_back : List (ℕ × Session) → ℕ → ℕ → List (ℕ × Session)
+takes_back connected number sequence = takes_back_if connected number sequence (session_at connected number)
+
+-- ---- a session that is lost
+
+-- the session of a number is connected no longer
+abbrev pub without_session : List (ℕ × Session) → ℕ → List (ℕ × Session)
+without_session connected number = remove_entry (is_at (nat_cmp number)) connected
+
+-- what it had pushed and is given up
+abbrev pub given_up_at : List (ℕ × Session) → ℕ → Option (List Pushed)
+given_up_at connected number = option_map (λ (session : Session). session.pushed) (session_at connected number)
 
 -- ---- its account
 

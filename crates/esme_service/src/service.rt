@@ -17,7 +17,7 @@ use config::Config;
 use fate_chain::Chain;
 use mc_types::{Moment, Slot};
 use pdu_codec::SystemId;
-use sessions::{Delivery, OpenRequest, Pushed, Session};
+use sessions::{Abandoned, Delivery, OpenRequest, Pushed, Session};
 use std::alloc::{AllocError, AllocFailed, Global};
 use std::collections::BTreeMap;
 use std::marker::Model;
@@ -48,7 +48,7 @@ impl Service {
     ghost use Rattle.esme_service.specs.Pushing.{IsPushed};
     ghost use Rattle.esme_service.specs.Reports.{waits};
     ghost use Rattle.esme_service.specs.Service.{SendsNextReceipt};
-    ghost use Rattle.esme_service.specs.Sessions.{account_at, put_at, session_in, waits_at};
+    ghost use Rattle.esme_service.specs.Sessions.{account_at, given_up_at, put_at, session_in, takes_back, waits_at, without_session};
     ghost use Rattle.esme_service.specs.Told.{reply_to};
     ghost use Rattle.node_model.specs.Reported.{receipt_of};
 
@@ -152,6 +152,26 @@ impl Service {
                 sequence,
             });
         }
+    }
+
+    /// What was pushed with this sequence_number on the session of a number is not sent: it leaves the window there, if that is connected. It takes no
+    /// memory.
+    pub fn take_back(&mut self, number: u8, sequence: u32)
+        ensures { self.new ≡ record self.old { sessions = takes_back self.old.sessions number sequence } }
+    {
+        if let Some(session) = self.sessions.get_mut(&number) {
+            let _ = session.take_back(sequence);
+        }
+    }
+
+    /// The session of a number is lost: it is connected no longer, and what it had pushed gets no answer any more. None if it is not connected; then
+    /// nothing changes. It takes no memory.
+    pub fn fail(&mut self, number: u8) -> Option<Abandoned>
+        ensures abandoned { result ≡ given_up_at self.old.sessions number }
+        ensures after { self.new ≡ record self.old { sessions = without_session self.old.sessions number } }
+    {
+        let mut session = self.sessions.remove(&number)?;
+        Some(session.fail())
     }
 
     /// The node replies to a request that waited: its response goes out on the session that holds its ticket, and it leaves the window there.

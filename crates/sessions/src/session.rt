@@ -255,6 +255,15 @@ impl Session {
         retain_timely(&mut self.pushed, now);
     }
 
+    /// The centre takes back what it pushed with this sequence_number, since it is not sent: it leaves the window. None if no such request is
+    /// open; then nothing changes. It takes no memory.
+    pub fn take_back(&mut self, sequence: u32) -> Option<Pushed>
+        ensures pushed { result ≡ find (λ request. request.sequence == sequence) self.old.pushed }
+        ensures after { self.new ≡ (steps.on_answer self.old sequence).next }
+    {
+        take_sequence(&mut self.pushed, sequence)
+    }
+
     /// The session is gone: the pushed requests that were open are given up, and what the ESME asked is forgotten. It takes no
     /// memory.
     pub fn fail(&mut self) -> Abandoned
