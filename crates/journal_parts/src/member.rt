@@ -1,7 +1,9 @@
 //! A node and its own steps, under its lock.
 
-ghost use Rattle.std.specs.Prelude.{◌≡◌, ◌≤◌, ◌∷◌, ◌++◌, ◌||◌, [], None, IfOk, OnErr, OnOk, false, true, map, ◌<◌, ◌⊎◌, ◌↔◌, IfErr, IsErrOf, IsSome};
+ghost use Rattle.std.specs.Prelude.{◌≡◌, ◌≤◌, ◌∷◌, ◌++◌, ◌||◌, [], None, Some, IfOk, IfSome, OnErr, OnOk, false, true, map, ◌<◌, ◌⊎◌, ◌↔◌, IfErr, IsErrOf, IsSome};
+ghost use Rattle.node_kept.specs.Keeping.{kept_of};
 ghost use Rattle.node_core.specs.Nodes.{IsLifeOf, fault_in};
+ghost use Rattle.node_model.specs.Kept.{message_at};
 ghost use Rattle.node_core.specs.Input.TheVariants as inputs;
 ghost use Rattle.node_core.specs.Permits.{IsAnswered, IsGrant, is_life_of};
 ghost use Rattle.world.specs.declared.step.Step.TheVariants as steps;
@@ -23,6 +25,7 @@ use crate::entry::Entry;
 use crate::post::Post;
 use crate::ready::Ready;
 use crate::refusal::Refusal;
+use fate_chain::Chain;
 use mc_types::{MsgId, NodeNo};
 use node_core::{Life, Node, Permit};
 use stable_store::StableStore;
@@ -231,6 +234,19 @@ impl<S: StableStore, L: Begins> Member<S, L> {
             return None;
         }
         self.post.node.grantable_after(after)
+    }
+
+    /// The chain of a message whose attempt the node would grant now: it ends in that attempt. None exactly if the node would not grant it, or is astray. It
+    /// takes no memory.
+    pub fn attempt(&self, id: MsgId) -> Option<&Chain>
+        ensures granted { IsSome result ↔ (self.now.post.astray ≡ false) × (fault_in self.now.post.node (inputs.Grant id) ≡ None) }
+        ensures known { IfSome result (λ chain. (message_at (kept_of self.now.post.node.kept) id).known ≡ Some chain.now.decrees) }
+        ensures id { IfSome result (λ chain. chain.now.id ≡ id) }
+    {
+        if self.post.astray {
+            return None;
+        }
+        self.post.node.attempt(id)
     }
 
     /// What a proof takes of it: its node is one of the cluster. The call does nothing.

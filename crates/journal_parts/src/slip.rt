@@ -1,6 +1,7 @@
 //! What the taker of a step has of it.
 
 ghost use Rattle.std.specs.Prelude.{◌≡◌, map, option_map};
+ghost use Rattle.std.specs.Option.{option_copied};
 ghost use Rattle.synod_acceptor.specs.Packets.{packet_of};
 ghost use Rattle.journal_laws.specs.Taken.{given_of};
 ghost use Rattle.journal_parts.specs.Entries.{entry_of, save_of};
@@ -8,6 +9,7 @@ ghost use Rattle.journal_parts.specs.Entries.{entry_of, save_of};
 use crate::entry::{Entry, Unfinished};
 use node_core::Outputs;
 use std::marker::Model;
+use synod_acceptor::Packet;
 use world::Step;
 
 /// What the taker of a step has of it: the number of its entry in the journal, from 1, the entry, and how many packets had numbers before it. Contracts see
@@ -61,6 +63,13 @@ impl Slip {
         ensures sent { map packet_of result.now.packets.items ≡ self.now.entry.done.sent }
     {
         &self.entry.done.outputs
+    }
+
+    /// The packet that came by the step, if one did.
+    pub fn packet(&self) -> Option<&Packet>
+        ensures { option_map packet_of (option_copied result) ≡ self.now.entry.done.packet }
+    {
+        self.entry.done.packet.as_ref()
     }
 
     /// How many packets had numbers before it: its own have the next ones.

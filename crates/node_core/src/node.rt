@@ -1,6 +1,6 @@
 //! One node.
 
-ghost use Rattle.std.specs.Prelude.{◌≡◌, ◌≢◌, ◌↔◌, ◌⊎◌, None, true, false, IfOk, IfErr, IsErrOf, IsOk, IsSome, OnErr, OnOk, ◌≤◌};
+ghost use Rattle.std.specs.Prelude.{◌≡◌, ◌≢◌, ◌↔◌, ◌⊎◌, None, Some, IfSome, true, false, IfOk, IfErr, IsErrOf, IsOk, IsSome, OnErr, OnOk, ◌≤◌};
 ghost use Rattle.mc_model.specs.synod.Acceptor.{Records};
 ghost use Rattle.mc_model.specs.message.Ids.{IsIncarnation, IsNode};
 ghost use Rattle.node_parts.specs.declared.fault.StepFault.TheVariants.{Broken, Device, Memory};
@@ -10,6 +10,7 @@ ghost use Rattle.stable_store.specs.Stored.{GoesOn, HasFailed, KeepsStarted, Sta
 ghost use Rattle.node_kept.specs.Granting.{IsLeastAbove};
 ghost use Rattle.node_kept.specs.Idling.{FindsNothing};
 ghost use Rattle.node_kept.specs.Keeping.{kept_of};
+ghost use Rattle.node_model.specs.Kept.{message_at};
 ghost use Rattle.node_kept.specs.Listing.{ListsRecorded};
 ghost use Rattle.node_kept.specs.Setups.{IsSetup};
 ghost use Rattle.node_kept.specs.Steps.{IsFault};
@@ -21,6 +22,7 @@ ghost use Rattle.node_core.specs.Nodes.{HasStopped, HasTaken, IsAwaited, IsLeft,
 use crate::life::Life;
 use crate::open::begin;
 use crate::pending::Pending;
+use fate_chain::Chain;
 use mc_types::{Moment, MsgId};
 use node_kept::{Foreseen, Kept, Setup, Step, Stopped, told};
 use node_parts::{Input, Outputs, StepFault};
@@ -176,6 +178,19 @@ impl<S: StableStore> Node<S> {
             return None;
         }
         self.kept.grantable_after(after)
+    }
+
+    /// The chain of a message whose attempt the node would grant now: it ends in that attempt. None exactly if the node would not grant it. It takes no
+    /// memory.
+    pub fn attempt(&self, id: MsgId) -> Option<&Chain>
+        ensures granted { IsSome result ↔ (fault_in self.now (inputs.Grant id) ≡ None) }
+        ensures known { IfSome result (λ chain. (message_at (kept_of self.now.kept) id).known ≡ Some chain.now.decrees) }
+        ensures id { IfSome result (λ chain. chain.now.id ≡ id) }
+    {
+        if self.broken {
+            return None;
+        }
+        self.kept.attempt(id).ok()
     }
 
     /// Whether a life is this node's, in its incarnation. It takes no memory.

@@ -40,7 +40,7 @@ impl Kept {
     }
 
     /// The known chain of a message, if the attempt in which it ends may be granted; else the first reason why not. It takes no memory.
-    fn attempt(&self, id: MsgId) -> Result<&Chain, GrantRefusal>
+    pub fn attempt(&self, id: MsgId) -> Result<&Chain, GrantRefusal>
         ensures known { IfOk result (λ chain. (message_at (kept_of self.now) id).known ≡ Some chain.now.decrees) }
         ensures id { IfOk result (λ chain. chain.now.id ≡ id) }
         ensures given { IfOk result (λ chain. grant_refusal self.now.setup (kept_of self.now) id ≡ None) }
