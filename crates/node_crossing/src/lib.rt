@@ -1,9 +1,7 @@
 //! What of the nodes of a cluster may go to another thread, and what threads may share.
 #![tactic(auto)]
 
-use journal_parts::Begins;
-use node_core::Node;
-use node_threads::Cluster;
+use node_threads::{Begins, Cluster, Node};
 use stable_store::StableStore;
 
 /// What a type has that may go to another thread. The call does nothing.

@@ -23,6 +23,7 @@ use Rattle.journal_laws.specs.Openings.{IsAsLeft}
 use Rattle.journal_laws.proofs.Openings.{IsSettled, keeps_as_left, keeps_as_new}
 use Rattle.journal_laws.proofs.Recorded.{lists_reached}
 use Rattle.node_threads.specs.Actions.{AllBegin}
+use Rattle.node_threads.specs.Defaults.{Defaults}
 use Rattle.node_threads.specs.Openings.{AreAsLeft, AreNew, AreOpened, AreUndoubted, IsOpened}
 use Rattle.node_threads.specs.Openings.{StandInOrder, cluster_of, kept_at, kept_or}
 
@@ -51,10 +52,10 @@ at_end xs x y place is last = elim (get_push xs place x y is) [
 ]
 
 module _ {S : Type 0} (stored : S → Stored) where
-  one_more : (count validity : ℕ) (stores : List S) (nodes : List (Standing S)) (lives : List Life) (store : S) (node : Standing S) (life : Life) →
-      AreOpened stored count validity stores nodes lives → IsOpened stored (setup_with (length nodes + 1) count 1 validity) store node life →
-      AreOpened stored count validity (stores ++ store ∷ []) (nodes ++ node ∷ []) (lives ++ life ∷ [])
-  one_more count validity stores nodes lives store node life are is = record {
+  one_more : (count : ℕ) (defaults : Defaults) (stores : List S) (nodes : List (Standing S)) (lives : List Life) (store : S) (node : Standing S) (life : Life) →
+      AreOpened stored count defaults stores nodes lives → IsOpened stored (setup_with (length nodes + 1) count defaults.first_serial defaults.default_validity) store node life →
+      AreOpened stored count defaults (stores ++ store ∷ []) (nodes ++ node ∷ []) (lives ++ life ∷ [])
+  one_more count defaults stores nodes lives store node life are is = record {
     nodes_are = let one = length-append nodes (node ∷ []) in let other = length-append stores (store ∷ []) in let same = are.nodes_are in omega arith;
     lives_are = let one = length-append lives (life ∷ []) in let other = length-append stores (store ∷ []) in let same = are.lives_are in omega arith;
     each = λ place s n l here there after. elim (get_push nodes place node n there) [
@@ -62,10 +63,10 @@ module _ {S : Type 0} (stored : S → Stored) where
           let last : place ≡ length stores = both.0 ∙ are.nodes_are in
           let same_store : s ≡ store = at_end stores store s place here last in
           let same_life : l ≡ life = at_end lives life l place after (last ∙ sym are.lives_are) in
-          subst (λ (x : S). IsOpened stored (setup_with (place + 1) count 1 validity) x n l) (sym same_store)
-          (subst (λ (x : Standing S). IsOpened stored (setup_with (place + 1) count 1 validity) store x l) (sym both.1)
-          (subst (λ (x : Life). IsOpened stored (setup_with (place + 1) count 1 validity) store node x) (sym same_life)
-          (subst (λ (x : ℕ). IsOpened stored (setup_with (x + 1) count 1 validity) store node life) (sym both.0) is)))
+          subst (λ (x : S). IsOpened stored (setup_with (place + 1) count defaults.first_serial defaults.default_validity) x n l) (sym same_store)
+          (subst (λ (x : Standing S). IsOpened stored (setup_with (place + 1) count defaults.first_serial defaults.default_validity) store x l) (sym both.1)
+          (subst (λ (x : Life). IsOpened stored (setup_with (place + 1) count defaults.first_serial defaults.default_validity) store node x) (sym same_life)
+          (subst (λ (x : ℕ). IsOpened stored (setup_with (x + 1) count defaults.first_serial defaults.default_validity) store node life) (sym both.0) is)))
       | inr before ↦
           let within = slice_get_within nodes place n before in
           let same = are.nodes_are in
@@ -76,14 +77,14 @@ module _ {S : Type 0} (stored : S → Stored) where
   }
 
   -- these opened, and those are left
-  pub record HaveOpened (count validity : ℕ) (stores left : List S) (nodes : List (Standing S)) (lives : List Life) : Type 0 where
+  pub record HaveOpened (count : ℕ) (defaults : Defaults) (stores left : List S) (nodes : List (Standing S)) (lives : List Life) : Type 0 where
     pub older : List S
     pub split : stores ≡ older ++ left
-    pub are : AreOpened stored count validity older nodes lives
+    pub are : AreOpened stored count defaults older nodes lives
 
-  pub none_yet : (count validity : ℕ) (stores left : List S) (nodes : List (Standing S)) (lives : List Life) → left ≡ stores → nodes ≡ [] → lives ≡ [] →
-      HaveOpened count validity stores left nodes lives
-  none_yet count validity stores left nodes lives all none nobody = record {
+  pub none_yet : (count : ℕ) (defaults : Defaults) (stores left : List S) (nodes : List (Standing S)) (lives : List Life) → left ≡ stores → nodes ≡ [] → lives ≡ [] →
+      HaveOpened count defaults stores left nodes lives
+  none_yet count defaults stores left nodes lives all none nobody = record {
     older = [];
     split = sym all;
     are = record {
@@ -93,17 +94,17 @@ module _ {S : Type 0} (stored : S → Stored) where
     };
   }
 
-  pub one_next : (count validity : ℕ) (stores : List S) (store : S) (before left : List S) (nodes more : List (Standing S)) (lives longer : List Life)
-      (with : Setup) (node : Standing S) (life : Life) → HaveOpened count validity stores before nodes lives → before ≡ store ∷ left →
-      with ≡ setup_with (length nodes + 1) count 1 validity → IsOpened stored with store node life → more ≡ nodes ++ node ∷ [] →
-      longer ≡ lives ++ life ∷ [] → HaveOpened count validity stores left more longer
-  one_next count validity stores store before left nodes more lives longer with node life have first setup is pushed also = record {
+  pub one_next : (count : ℕ) (defaults : Defaults) (stores : List S) (store : S) (before left : List S) (nodes more : List (Standing S)) (lives longer : List Life)
+      (with : Setup) (node : Standing S) (life : Life) → HaveOpened count defaults stores before nodes lives → before ≡ store ∷ left →
+      with ≡ setup_with (length nodes + 1) count defaults.first_serial defaults.default_validity → IsOpened stored with store node life → more ≡ nodes ++ node ∷ [] →
+      longer ≡ lives ++ life ∷ [] → HaveOpened count defaults stores left more longer
+  one_next count defaults stores store before left nodes more lives longer with node life have first setup is pushed also = record {
     older = have.older ++ store ∷ [];
     split = have.split ∙ ap (λ (rest : List S). have.older ++ rest) first ∙ sym (append_assoc have.older (store ∷ []) left);
     are =
-        subst (λ (ns : List (Standing S)). AreOpened stored count validity (have.older ++ store ∷ []) ns longer) (sym pushed)
-        (subst (λ (ls : List Life). AreOpened stored count validity (have.older ++ store ∷ []) (nodes ++ node ∷ []) ls) (sym also)
-        (one_more count validity have.older nodes lives store node life have.are (subst (λ (s : Setup). IsOpened stored s store node life) setup is)));
+        subst (λ (ns : List (Standing S)). AreOpened stored count defaults (have.older ++ store ∷ []) ns longer) (sym pushed)
+        (subst (λ (ls : List Life). AreOpened stored count defaults (have.older ++ store ∷ []) (nodes ++ node ∷ []) ls) (sym also)
+        (one_more count defaults have.older nodes lives store node life have.are (subst (λ (s : Setup). IsOpened stored s store node life) setup is)));
   }
 
 -- ---- where their journal begins
@@ -114,10 +115,10 @@ keeps : {S : Type 0} (stored : S → Stored) → IsSettled stored → (store : S
 keeps stored settled store with node life k lost over sure lists true new = keeps_as_new stored settled store with node life over sure new
 keeps stored settled store with node life k lost over sure lists false left = keeps_as_left stored settled store with node life k lost over sure lists left
 
-module _ {S : Type 0} (stored : S → Stored) (validity : ℕ) (stores : List S) (nodes : List (Standing S)) (lives : List Life)
-    (are : AreOpened stored (length stores) validity stores nodes lives) where
+module _ {S : Type 0} (stored : S → Stored) (defaults : Defaults) (stores : List S) (nodes : List (Standing S)) (lives : List Life)
+    (are : AreOpened stored (length stores) defaults stores nodes lives) where
   abbrev cluster : Cluster
-  cluster = cluster_of nodes validity
+  cluster = cluster_of nodes defaults
 
   -- it opened over the store at its place
   record IsAt (place : ℕ) (node : Standing S) : Type 0 where
@@ -139,7 +140,7 @@ module _ {S : Type 0} (stored : S → Stored) (validity : ℕ) (stores : List S)
         life = life;
         there = there;
         within = within;
-        is = subst (λ (count : ℕ). IsOpened stored (setup_with (place + 1) count 1 validity) store node life) (sym same)
+        is = subst (λ (count : ℕ). IsOpened stored (setup_with (place + 1) count defaults.first_serial defaults.default_validity) store node life) (sym same)
             (are.each place store node life there here after);
       }
 
@@ -162,8 +163,8 @@ module _ {S : Type 0} (stored : S → Stored) (validity : ℕ) (stores : List S)
         finished = it.is.finished;
       }
 
-  pub as_they_are : AllBegin cluster (kept_at nodes validity) nodes
-  as_they_are = begins (kept_at nodes validity) (λ place node here it.
+  pub as_they_are : AllBegin cluster (kept_at nodes defaults) nodes
+  as_they_are = begins (kept_at nodes defaults) (λ place node here it.
       let other = opened_new (setup_of cluster (place + 1)) in
       let number : place + 1 - 1 ≡ place = omega arith in
       sym (ap (λ (n : ℕ). kept_or other (slice_get nodes n)) number ∙ ap (λ (found : Option (Standing S)). kept_or other found) here))

@@ -1,3 +1,11 @@
+pub use Rattle.journal_parts.specs.declared.begins.Begins
+pub use Rattle.journal_parts.specs.Closing
+pub use Rattle.journal_parts.specs.Granting
+pub use Rattle.journal_parts.specs.Numbers
+pub use Rattle.journal_parts.specs.Slips
+pub use Rattle.journal_parts.specs.declared.refusal.Refusal
+pub use Rattle.world.specs.declared.step.Step
 pub mod Actions
-pub mod Refusing
+pub mod Defaults
 pub mod Openings
+pub mod Refusing

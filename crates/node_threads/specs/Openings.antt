@@ -17,6 +17,7 @@ use Rattle.node_core.specs.Setups.{setup_with}
 use Rattle.journal_laws.specs.OldStores.{kept_opened}
 use Rattle.journal_laws.specs.Openings.{IsAsLeft, IsNew}
 use Rattle.node_threads.specs.Actions.{AllBegin}
+use Rattle.node_threads.specs.Defaults.{Defaults}
 use Rattle.node_threads.specs.declared.start_fault.StartFault.{StartFault}
 use Rattle.node_threads.specs.declared.start_fault.StartFault.TheVariants as starts
 
@@ -29,15 +30,15 @@ pub record IsOpened {S : Type 0} (stored : S → Stored) (with : Setup) (store :
   pub untold : node.stopped ≡ None
 
 -- Of so many nodes the first opened, one over each of these stores: node n and its life stand where its store does, at the place n - 1. Each incarnation begins
--- with the serial 1, and a message is valid for so many seconds that does not say it.
-pub record AreOpened {S : Type 0} (stored : S → Stored) (count validity : ℕ) (stores : List S) (nodes : List (Standing S)) (lives : List Life) : Type 0 where
+-- with the serial that is handed in, and a message that does not say it is valid for as long as is.
+pub record AreOpened {S : Type 0} (stored : S → Stored) (count : ℕ) (defaults : Defaults) (stores : List S) (nodes : List (Standing S)) (lives : List Life) : Type 0 where
   pub nodes_are : length nodes ≡ length stores
   pub lives_are : length lives ≡ length stores
   pub each : (place : ℕ) (store : S) (node : Standing S) (life : Life) → slice_get stores place ≡ Some store → slice_get nodes place ≡ Some node →
-      slice_get lives place ≡ Some life → IsOpened stored (setup_with (place + 1) count 1 validity) store node life
+      slice_get lives place ≡ Some life → IsOpened stored (setup_with (place + 1) count defaults.first_serial defaults.default_validity) store node life
 
 -- The node with this number did not open over its store, for this reason, which is not want of memory; those before it did over theirs.
-pub record FailsAt {S : Type 0} (stored : S → Stored) (validity : ℕ) (stores : List S) (number : ℕ) (fault : StoreFault) : Type 0 where
+pub record FailsAt {S : Type 0} (stored : S → Stored) (defaults : Defaults) (stores : List S) (number : ℕ) (fault : StoreFault) : Type 0 where
   pub older : List S
   pub store : S
   pub newer : List S
@@ -45,7 +46,7 @@ pub record FailsAt {S : Type 0} (stored : S → Stored) (validity : ℕ) (stores
   pub number_is : number ≡ length older + 1
   pub nodes : List (Standing S)
   pub lives : List Life
-  pub before : AreOpened stored (length stores) validity older nodes lives
+  pub before : AreOpened stored (length stores) defaults older nodes lives
   pub known : fault ≢ faults.Memory
   pub after : S
   pub fails : FailsToOpen fault (stored store) (stored after)
@@ -55,10 +56,10 @@ abbrev pub AreNotNodes : {S : Type 0} → List S → Type 0
 AreNotNodes stores = (length stores < 1) ⊎ (9 < length stores)
 
 -- why the nodes of these stores do not start
-abbrev pub CantStart : {S : Type 0} → (S → Stored) → ℕ → List S → StartFault → Type 0
-CantStart stored validity stores (starts.Open number fault) = FailsAt stored validity stores number fault
-CantStart stored validity stores starts.Nodes = AreNotNodes stores
-CantStart stored validity stores starts.Memory = Unit {0}
+abbrev pub CantStart : {S : Type 0} → (S → Stored) → Defaults → List S → StartFault → Type 0
+CantStart stored defaults stores (starts.Open number fault) = FailsAt stored defaults stores number fault
+CantStart stored defaults stores starts.Nodes = AreNotNodes stores
+CantStart stored defaults stores starts.Memory = Unit {0}
 
 -- what is told if a store tells this of a node
 abbrev pub fault_at : ℕ → StoreFault → StartFault
@@ -77,8 +78,8 @@ CantOpen stored node store starts.Memory = Unit {0}
 -- ---- where their journal begins
 
 -- the cluster that these nodes are
-abbrev pub cluster_of : {S : Type 0} → List (Standing S) → ℕ → Cluster
-cluster_of nodes validity = cluster_with (length nodes) 1 validity
+abbrev pub cluster_of : {S : Type 0} → List (Standing S) → Defaults → Cluster
+cluster_of nodes defaults = cluster_with (length nodes) defaults.first_serial defaults.default_validity
 
 -- the setup of each is that of its place
 abbrev pub StandInOrder : {S : Type 0} → Cluster → List (Standing S) → Type 0
@@ -90,8 +91,8 @@ kept_or other None = other
 kept_or other (Some node) = kept_of node.kept
 
 -- what the node with this number keeps
-abbrev pub kept_at : {S : Type 0} → List (Standing S) → ℕ → ℕ → Kept
-kept_at nodes validity number = kept_or (opened_new (setup_of (cluster_of nodes validity) number)) (slice_get nodes (number - 1))
+abbrev pub kept_at : {S : Type 0} → List (Standing S) → Defaults → ℕ → Kept
+kept_at nodes defaults number = kept_or (opened_new (setup_of (cluster_of nodes defaults) number)) (slice_get nodes (number - 1))
 
 abbrev pub AreNew : {S : Type 0} → (S → Stored) → List S → Type 0
 AreNew {S} stored stores = (store : S) → In store stores → IsNew (stored store)
@@ -109,23 +110,23 @@ AreAsLeft {S} stored cluster inputs fresh lost stores =
 -- Nodes that opened stand in their order.
 abbrev pub OpenInOrder : {S : Type 0} → (S → Stored) → Type 0
 OpenInOrder {S} stored =
-    (validity : ℕ) (stores : List S) (nodes : List (Standing S)) (lives : List Life) → AreOpened stored (length stores) validity stores nodes lives →
-    StandInOrder (cluster_of nodes validity) nodes
+    (defaults : Defaults) (stores : List S) (nodes : List (Standing S)) (lives : List Life) → AreOpened stored (length stores) defaults stores nodes lives →
+    StandInOrder (cluster_of nodes defaults) nodes
 
 -- Their journal begins with what they keep; over new stores that is what the model's nodes open with, and over old ones what those start anew with.
 abbrev pub BeginAsTheyAre : {S : Type 0} → (S → Stored) → Type 0
 BeginAsTheyAre {S} stored =
-    (validity : ℕ) (stores : List S) (nodes : List (Standing S)) (lives : List Life) → AreOpened stored (length stores) validity stores nodes lives →
-    AllBegin (cluster_of nodes validity) (kept_at nodes validity) nodes
+    (defaults : Defaults) (stores : List S) (nodes : List (Standing S)) (lives : List Life) → AreOpened stored (length stores) defaults stores nodes lives →
+    AllBegin (cluster_of nodes defaults) (kept_at nodes defaults) nodes
 
 abbrev pub BeginAsNew : {S : Type 0} → (S → Stored) → Type 0
 BeginAsNew {S} stored =
-    (validity : ℕ) (stores : List S) (nodes : List (Standing S)) (lives : List Life) → AreOpened stored (length stores) validity stores nodes lives →
+    (defaults : Defaults) (stores : List S) (nodes : List (Standing S)) (lives : List Life) → AreOpened stored (length stores) defaults stores nodes lives →
     AreNew stored stores → AreUndoubted stored nodes →
-    AllBegin (cluster_of nodes validity) (λ node. opened_new (setup_of (cluster_of nodes validity) node)) nodes
+    AllBegin (cluster_of nodes defaults) (λ node. opened_new (setup_of (cluster_of nodes defaults) node)) nodes
 
 abbrev pub BeginAsLeft : {S : Type 0} → (S → Stored) → Type 0
 BeginAsLeft {S} stored =
-    (validity : ℕ) (stores : List S) (nodes : List (Standing S)) (lives : List Life) (inputs : List NodeInput) (fresh : ℕ → Bool) (lost : ℕ → ℕ) →
-    AreOpened stored (length stores) validity stores nodes lives → AreAsLeft stored (cluster_of nodes validity) inputs fresh lost stores →
-    AreUndoubted stored nodes → AllBegin (cluster_of nodes validity) (kept_opened (cluster_of nodes validity) inputs fresh lost) nodes
+    (defaults : Defaults) (stores : List S) (nodes : List (Standing S)) (lives : List Life) (inputs : List NodeInput) (fresh : ℕ → Bool) (lost : ℕ → ℕ) →
+    AreOpened stored (length stores) defaults stores nodes lives → AreAsLeft stored (cluster_of nodes defaults) inputs fresh lost stores →
+    AreUndoubted stored nodes → AllBegin (cluster_of nodes defaults) (kept_opened (cluster_of nodes defaults) inputs fresh lost) nodes

@@ -2,8 +2,10 @@
 #![tactic(auto)]
 
 mod action;
+mod attempting;
 mod closing;
 mod cluster;
+mod defaults;
 mod going_on;
 mod hinting;
 mod opened;
@@ -13,10 +15,14 @@ mod start_fault;
 mod taking;
 
 pub use action::Action;
+pub use attempting::Attempt;
 pub use closing::{SeatsFault, SeatsOut};
 pub use cluster::Cluster;
+pub use defaults::Defaults;
 pub use journal_parts::{
-    Begins, Done, Entry, Journal, Refusal, Seat, Slip, Unfinished, closed_journals_go_on,
+    Begins, Done, Entry, Journal, MOST_SEATS, Packet, Refusal, Seat, Slip, Unfinished,
+    closed_journals_go_on,
 };
+pub use node_core::{Life, Node, Outputs, Permit};
 pub use opening::{open_nodes, opened_nodes_begin};
 pub use start_fault::StartFault;

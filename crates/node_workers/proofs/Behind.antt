@@ -2,7 +2,7 @@
 use Rattle.std.proofs.Common.{ℕ, List, [], ◌∷◌, ◌++◌, Option, true, false, refl, sym, ap, subst, ◌∙◌, append_assoc}
 use Rattle.pdu_bodies.specs.declared.pdu.Pdu.{Pdu}
 use Rattle.sessions.specs.Session.{sequence_after}
-use Rattle.journal_parts.specs.Slips.{Slipped}
+use Rattle.node_threads.specs.Slips.{Slipped}
 use Rattle.node_workers.specs.Attempts.{AreAttempts, HasWorkedTo, IsAttempt, Tries}
 
 module _ {G : Type 0} (answers : G → List ℕ → List ℕ → Option Pdu → G → Type 0) (node : ℕ) where

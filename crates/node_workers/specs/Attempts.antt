@@ -7,10 +7,10 @@ use Rattle.pdu_bodies.specs.declared.pdu.Pdu.{Pdu}
 use Rattle.delivery.specs.declared.outcome.Outcome.{Outcome}
 use Rattle.delivery.specs.Kept.{outcome_kept}
 use Rattle.worker_parts.specs.Attempts.{AreOctetsOf, outcome_by}
-use Rattle.world.specs.declared.step.Step.TheVariants as steps
-use Rattle.journal_parts.specs.Slips.{Slipped}
-use Rattle.journal_parts.specs.declared.refusal.Refusal.{Refusal}
-use Rattle.journal_parts.specs.declared.refusal.Refusal.TheVariants as refusals
+use Rattle.node_threads.specs.Step.TheVariants as steps
+use Rattle.node_threads.specs.Slips.{Slipped}
+use Rattle.node_threads.specs.Refusal.{Refusal}
+use Rattle.node_threads.specs.Refusal.TheVariants as refusals
 use Rattle.sessions.specs.Session.{sequence_after}
 
 -- an attempt that is not granted is skipped, and no other refusal is

@@ -3,31 +3,31 @@
 ghost use Rattle.std.specs.Prelude.{◌≡◌, ◌++◌, ◌∷◌, [], IfNone, IfOk, IfSome, OnErr, OnOk, false, true};
 ghost use Rattle.std.specs.declared.option.Option.{Option as Maybe};
 ghost use Rattle.pdu_bodies.specs.declared.pdu.Pdu.{Pdu as Given};
-ghost use Rattle.journal_parts.specs.Slips.{Slipped};
-ghost use Rattle.world.specs.declared.step.Step.TheVariants as steps;
+ghost use Rattle.node_threads.specs.Slips.{Slipped};
+ghost use Rattle.node_threads.specs.Step.TheVariants as steps;
 ghost use Rattle.node_workers.specs.Attempts.{IsAnsweredAt, IsGrantAt, IsUnanswered, Leaves, Tries, skipping};
 
 use crate::carrying::carried_by;
 use crate::home::Home;
 use delivery::Outcome;
-use journal_parts::{Begins, Refusal, Seat, Slip};
 use mc_types::MsgId;
-use node_core::Permit;
+use node_threads::{Begins, Permit, Refusal, Seat, Slip};
 use pdu_codec::Pdu;
 use stable_store::StableStore;
 use std::sync::Wait;
 use worker_parts::{Gate, attempt_outcome};
 
 /// What a worker heard of: the message, and the sequence_number of the octets if its attempt is granted.
-#[derive(Clone, Copy)]
-pub(crate) struct Heard {
-    pub(crate) id: MsgId,
-    pub(crate) sequence: u32,
+#[derive(Clone, Copy, Debug, PartialEq, Eq)]
+pub struct Heard {
+    pub id: MsgId,
+    pub sequence: u32,
 }
 
 /// Tries the attempt of a message: whether it was granted, and then carried through the gate, and answered with what the gate gave. One that is not granted is
-/// skipped. At any other refusal the permit is given up, if there is one; no slip is added but that of the grant.
-pub(crate) fn tried<S: StableStore, L: Begins, R: Wait, G: Gate<R>>(
+/// skipped. At any other refusal the permit is given up, if there is one; no slip is added but that of the grant. `worker` goes on so with what it hears of; who
+/// looks at the slips of each attempt calls this alone.
+pub fn tried<S: StableStore, L: Begins, R: Wait, G: Gate<R>>(
     rt: &R,
     home: &Home<'_, S, L>,
     seat: &mut Seat<L>,

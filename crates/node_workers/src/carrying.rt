@@ -5,7 +5,7 @@ ghost use Rattle.node_workers.specs.Attempts.{IsCarried, IsCarriedBy};
 
 use delivery::DeliverFault;
 use fate_chain::Chain;
-use journal_parts::{Refusal, Slip};
+use node_threads::{Refusal, Slip};
 use pdu_codec::Pdu;
 use std::alloc::Global;
 use std::sync::Wait;

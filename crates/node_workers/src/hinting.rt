@@ -1,11 +1,10 @@
 //! Hints of what may be granted at a node.
 
 ghost use Rattle.std.specs.Prelude.{◌≡◌, IfErr};
-ghost use Rattle.journal_parts.specs.declared.refusal.Refusal.TheVariants.{NoSuchNode};
+ghost use Rattle.node_threads.specs.Refusal.TheVariants.{NoSuchNode};
 
-use journal_parts::{Begins, Refusal};
 use mc_types::NodeNo;
-use node_threads::Cluster;
+use node_threads::{Begins, Cluster, Refusal};
 use stable_store::StableStore;
 use std::sync::Wait;
 use worker_parts::Hints;

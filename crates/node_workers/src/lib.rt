@@ -7,5 +7,7 @@ mod hinting;
 mod home;
 mod working;
 
+pub use attempting::{Heard, tried};
 pub use hinting::hint;
+pub use home::Home;
 pub use working::worker;

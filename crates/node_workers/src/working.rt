@@ -5,9 +5,7 @@ ghost use Rattle.node_workers.specs.Attempts.{HasStopped, HasWorked};
 
 use crate::attempting::{Heard, tried};
 use crate::home::Home;
-use journal_parts::{Begins, Refusal, Seat};
-use node_core::Life;
-use node_threads::Cluster;
+use node_threads::{Begins, Cluster, Life, Refusal, Seat};
 use sessions::sequence_after;
 use stable_store::StableStore;
 use std::sync::Wait;

@@ -6,12 +6,13 @@ ghost use Rattle.node_model.specs.Stepped.{opened_new};
 ghost use Rattle.stable_store.specs.Stored.{stored_in};
 ghost use Rattle.journal_laws.specs.Parts.{LeadTo};
 ghost use Rattle.node_threads.specs.Actions.{AllBegin};
+ghost use Rattle.node_threads.specs.Defaults.{from_one};
 ghost use Rattle.node_threads.specs.Openings.{AreNew, cluster_of};
 ghost use Rattle.journal_parts.specs.Numbers.{none_sent};
 
 use crate::lives::submitted;
 use crate::same::assert_same;
-use crate::tables::{PARTS, VALIDITY};
+use crate::tables::{PARTS, defaults};
 use journal_laws::nodes_that_open_begin_a_journal;
 use mc_types::NodeNo;
 use node_core::{Life, Node};
@@ -43,11 +44,11 @@ pub fn over_new_stores(
     alloc: Global,
     count: u8,
 ) -> (Vec<Node<ListStore>>, Vec<Life>)
-    ensures { AllBegin (cluster_of result.0.items 172800) (λ node. opened_new (setup_of (cluster_of result.0.items 172800) node)) result.0.items }
+    ensures { AllBegin (cluster_of result.0.items (from_one 172800)) (λ node. opened_new (setup_of (cluster_of result.0.items (from_one 172800)) node)) result.0.items }
 {
     let stores = new_stores(rt, alloc, count);
     opened_nodes_begin::<ListStore>();
-    match open_nodes(alloc, stores, VALIDITY) {
+    match open_nodes(alloc, stores, defaults(rt)) {
         Ok(opened) => opened,
         Err(_) => panic!(rt; "they open"),
     }
@@ -131,7 +132,7 @@ fn lives_stand_in_order(rt: HostRuntime) {
 }
 
 fn refused(rt: &impl Abort, alloc: Global, count: u8) -> Option<StartFault> {
-    match open_nodes(alloc, new_stores(rt, alloc, count), VALIDITY) {
+    match open_nodes(alloc, new_stores(rt, alloc, count), defaults(rt)) {
         Ok(opened) => {
             drop(opened);
             None
@@ -167,7 +168,7 @@ fn the_first_store_that_fails_is_told(rt: HostRuntime) {
     let mut stores = new_stores(&rt, alloc, 1);
     stores.push(spent(&rt, alloc)).expect(&rt, "memory");
     stores.push(spent(&rt, alloc)).expect(&rt, "memory");
-    let told = match open_nodes(alloc, stores, VALIDITY) {
+    let told = match open_nodes(alloc, stores, defaults(&rt)) {
         Ok(opened) => {
             drop(opened);
             None

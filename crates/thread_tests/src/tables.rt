@@ -3,10 +3,11 @@
 ghost use Rattle.std.specs.Prelude.{◌≡◌, None};
 ghost use Rattle.mc_model.specs.message.Ids.{IsNode};
 ghost use Rattle.node_core.specs.Setups.{IsSetup};
+ghost use Rattle.node_threads.specs.Defaults.{from_one};
 
 use mc_types::NodeNo;
 use node_core::{Life, Node, Setup, open_node};
-use node_threads::{Action, Begins, Cluster, Refusal, Seat};
+use node_threads::{Action, Begins, Cluster, Defaults, Refusal, Seat};
 use stable_store::ListStore;
 use std::alloc::Global;
 use std::process::Abort;
@@ -16,7 +17,14 @@ use std::sync::Wait;
 pub const PARTS: u64 = 1_000_000;
 
 /// For how many seconds a message is valid that does not say it.
-pub const VALIDITY: u32 = 172800;
+const VALIDITY: u32 = 172800;
+
+/// What the nodes go by: each incarnation begins with the serial 1.
+pub fn defaults(rt: &impl Abort) -> Defaults
+    ensures { result ≡ from_one 172800 }
+{
+    Defaults::make(1, VALIDITY).expect(rt, "defaults")
+}
 
 /// The one node.
 pub fn first(rt: &impl Abort) -> NodeNo {

@@ -4,7 +4,7 @@ use Rattle.node_threads.proofs.opening.open_each.Given as goal
 
 abbrev pub invariant-loop-store : goal.invariant-loop-store
 invariant-loop-store g l =
-    HaveOpened g.S.StableStore.stored (length l.fn.stores.items) l.default_validity l.fn.stores.items l.left.items l.nodes.items l.lives.items
+    HaveOpened g.S.StableStore.stored (length l.fn.stores.items) l.defaults l.fn.stores.items l.left.items l.nodes.items l.lives.items
 
 abbrev pub decreases-loop-store : goal.decreases-loop-store
 decreases-loop-store g l = length l.left.items

@@ -1,5 +1,5 @@
 use Rattle.std.proofs.Common.{◌-◌}
-use Rattle.journal_parts.specs.Granting.{number_behind}
+use Rattle.node_threads.specs.Granting.{number_behind}
 use Rattle.node_workers.proofs.hinting.hint.Given as goal
 
 abbrev pub decreases-loop-id : goal.decreases-loop-id
