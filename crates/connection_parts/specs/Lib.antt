@@ -1,0 +1,5 @@
+pub mod Outboxes
+pub mod Places
+pub mod Laws
+pub mod Fitting
+pub mod Tallies

@@ -1,0 +1,16 @@
+//! What a server keeps of one connection with an ESME: the frames that wait to be written, and the places of the workers that deliver over it.
+#![tactic(auto)]
+
+mod fitting;
+mod laws;
+mod moments;
+mod outbox;
+mod place;
+mod tally;
+
+pub use fitting::without_optional;
+pub use laws::only_what_was_sent_is_answered;
+pub use moments::moment_at;
+pub use outbox::{MANY_FRAMES, MOST_FRAMES, Outbox};
+pub use place::{Job, Place};
+pub use tally::Tally;

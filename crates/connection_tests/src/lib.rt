@@ -1,0 +1,13 @@
+//! Tests of `connection_parts`, in a crate without code so that it is proved once.
+#![tactic(auto)]
+
+#[cfg(test)]
+mod fitting;
+#[cfg(test)]
+mod numbers;
+#[cfg(test)]
+mod outboxes;
+#[cfg(test)]
+mod places;
+#[cfg(test)]
+mod same;

@@ -1,0 +1,41 @@
+//! Moments and counts.
+
+use crate::same::assert_same;
+use connection_parts::{Tally, moment_at};
+
+#[test]
+fn a_moment_is_within_its_range(rt: HostRuntime) {
+    let seconds = [
+        moment_at(0).seconds(),
+        moment_at(946684799).seconds(),
+        moment_at(946684801).seconds(),
+        moment_at(1706700000).seconds(),
+        moment_at(4102444800).seconds(),
+        moment_at(u64::MAX).seconds(),
+    ];
+    assert_same(
+        &rt,
+        &seconds,
+        &[
+            946684800, 946684800, 946684801, 1706700000, 4102444799, 4102444799,
+        ],
+    );
+}
+
+#[test]
+fn counts_stay_at_their_greatest_value(rt: HostRuntime) {
+    let some = Tally {
+        submits: 1,
+        deliveries: 2,
+        receipts: 3,
+        refused: u64::MAX,
+    };
+    let both = Tally {
+        submits: 2,
+        deliveries: 4,
+        receipts: 6,
+        refused: u64::MAX,
+    };
+    assert_same(&rt, &some.plus(some), &both);
+    assert_same(&rt, &Tally::zero().plus(some), &some);
+}

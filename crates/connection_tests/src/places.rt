@@ -1,0 +1,101 @@
+//! A worker's place.
+
+use crate::same::assert_same;
+use connection_parts::{Job, Place};
+use esme_service::PushedOn;
+use mc_types::{Incarnation, MsgId, NodeNo, Slot};
+use pdu_codec::{Body, Pdu};
+use std::process::Abort;
+
+/// A delivery on session 3, of message 1000100001, whose deliver_sm has this sequence_number.
+fn job(rt: &impl Abort, sequence: u32) -> Job {
+    let node = NodeNo::make(1).expect(rt, "a node");
+    let incarnation = Incarnation::make(1).expect(rt, "an incarnation");
+    let id = MsgId::make(node, incarnation, 1).expect(rt, "an id");
+    Job {
+        slot: Slot { id, place: 1 },
+        pushed: PushedOn {
+            number: 3,
+            sequence,
+            knows_optional: true,
+        },
+    }
+}
+
+/// The deliver_sm_resp with this sequence_number.
+fn answer(sequence: u32) -> Pdu {
+    Pdu {
+        status: 0,
+        sequence,
+        body: Body::DeliverSmResp(None),
+    }
+}
+
+/// The sequence_number of what is told.
+fn told(place: &mut Place) -> Option<u32> {
+    Some(place.told()?.sequence)
+}
+
+#[test]
+fn an_answer_to_what_was_sent_is_told_once(rt: HostRuntime) {
+    let mut place = Place::free();
+    let idle = (place.is_free(), place.is_idle(), place.is_shut());
+    let given = (place.give(job(&rt, 7)), place.take(), place.send());
+    let waiting = (place.waits(), place.is_free(), place.is_idle());
+    let answered = [place.answer(8, answer(8)), place.answer(7, answer(7))];
+    let told = [told(&mut place), told(&mut place)];
+    place.end();
+    let over = (place.waits(), place.is_free());
+    drop(place);
+    assert_same(&rt, &idle, &(true, true, false));
+    assert_same(&rt, &given, &(true, Some(job(&rt, 7)), true));
+    assert_same(
+        &rt,
+        &(waiting, answered),
+        &((true, false, false), [false, true]),
+    );
+    assert_same(&rt, &(told, over), &([Some(7), None], (false, true)));
+}
+
+#[test]
+fn an_answer_to_what_was_not_sent_tells_nothing(rt: HostRuntime) {
+    let mut place = Place::free();
+    let given = [place.give(job(&rt, 7)), place.give(job(&rt, 8))];
+    let answered = place.answer(7, answer(7));
+    let late = (place.take().is_none(), place.send(), told(&mut place));
+    drop(place);
+    assert_same(&rt, &(given, answered), &([true, false], true));
+    assert_same(&rt, &late, &(true, false, None));
+}
+
+#[test]
+fn a_job_that_is_given_up_has_no_answer(rt: HostRuntime) {
+    let mut place = Place::free();
+    let sent = [
+        place.give(job(&rt, 7)),
+        place.take().is_some(),
+        place.send(),
+    ];
+    let given_up = [place.give_up(8), place.give_up(7), place.give_up(7)];
+    let late = (place.waits(), place.answer(7, answer(7)), told(&mut place));
+    drop(place);
+    assert_same(&rt, &(sent, given_up), &([true; 3], [false, true, false]));
+    assert_same(&rt, &late, &(false, false, None));
+}
+
+#[test]
+fn a_job_of_a_place_that_is_shut_has_no_answer(rt: HostRuntime) {
+    let mut place = Place::free();
+    let sent = [
+        place.give(job(&rt, 7)),
+        place.take().is_some(),
+        place.send(),
+    ];
+    place.shut();
+    let late = (place.waits(), place.answer(7, answer(7)), told(&mut place));
+    place.end();
+    let shut = (place.is_shut(), place.is_idle(), place.give(job(&rt, 8)));
+    drop(place);
+    assert_same(&rt, &(sent, late), &([true; 3], (false, false, None)));
+    assert_same(&rt, &shut, &(true, false, false));
+}
