@@ -33,7 +33,16 @@ fn other_arguments_are_told_the_usage(rt: HostRuntime) {
     for words in others {
         let mut output = Vec::new(alloc);
         let run = program_run(alloc, words, b"nodes 1\n".as_slice(), &mut output);
-        assert_told(&rt, alloc, "", run, (1, b"usage: centre script\n"));
+        assert_told(
+            &rt,
+            alloc,
+            "",
+            run,
+            (
+                1,
+                b"usage: centre script, or serve FILE, or check FILE; centre --help says more\n",
+            ),
+        );
         assert_same(&rt, &(run, output.len()), &(ProgramRun::Usage, 0));
     }
 }

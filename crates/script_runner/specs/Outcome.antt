@@ -211,6 +211,6 @@ status_of (Script (Err Memory)) = 1
 
 -- what is told on standard error: one line, or nothing at the end of a script
 abbrev pub told_by : ProgramRun → List ℕ
-told_by Usage = codes "usage: centre script" ++ 10 ∷ []
+told_by Usage = codes "usage: centre script, or serve FILE, or check FILE; centre --help says more" ++ 10 ∷ []
 told_by (Script (Ok done)) = []
 told_by (Script (Err fault)) = fault_text fault ++ 10 ∷ []

@@ -42,7 +42,10 @@ impl ProgramRun {
         ensures { OnOk result (Appends (E.contents errors.old) (E.contents errors.new) (told_by self)) }
     {
         match self {
-            ProgramRun::Usage => writeln!(errors, "usage: centre script"),
+            ProgramRun::Usage => writeln!(
+                errors,
+                "usage: centre script, or serve FILE, or check FILE; centre --help says more"
+            ),
             ProgramRun::Script(Ok(())) => Ok(()),
             ProgramRun::Script(Err(fault)) => writeln!(errors, "{fault}"),
         }

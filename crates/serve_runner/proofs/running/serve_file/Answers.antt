@@ -1,0 +1,10 @@
+use Rattle.std.proofs.Common.{subst}
+use Rattle.node_threads.specs.Actions.{AllBegin}
+use Rattle.node_threads.specs.Defaults.{Defaults}
+use Rattle.node_threads.specs.Openings.{cluster_of, kept_at}
+use Rattle.serve_runner.proofs.running.serve_file.Goals as goal
+
+pub serve_over-requires-clause-begin : goal.serve_over-requires-clause-begin
+serve_over-requires-clause-begin g c κs within =
+    let nodes = c.in_ok-nodes.nodes.items in
+    subst (λ (d : Defaults). AllBegin (cluster_of nodes d) (kept_at nodes d) nodes) c.in-Some.ensures.value c.in_ok-nodes.ensures

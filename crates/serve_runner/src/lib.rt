@@ -1,0 +1,13 @@
+//! Runs a server: its arguments and its configuration to stores, listeners and nodes, and how it ended to an exit status.
+#![tactic(auto)]
+
+mod asked;
+mod fault;
+mod inspecting;
+mod opening;
+mod running;
+
+pub use asked::{Asked, Options, asked_by};
+pub use fault::ServeFault;
+pub use inspecting::inspect;
+pub use running::serve_file;

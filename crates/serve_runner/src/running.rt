@@ -1,0 +1,124 @@
+//! A server from its configuration to its end.
+
+ghost use Rattle.std.specs.Prelude.{◌≡◌};
+ghost use Rattle.node_threads.specs.Actions.{AllBegin};
+ghost use Rattle.node_threads.specs.Openings.{cluster_of, kept_at};
+ghost use Rattle.serve_runner.specs.Beginnings.{defaults_in};
+
+use crate::asked::Options;
+use crate::fault::ServeFault;
+use crate::opening::{Configured, listen_all, open_all, open_stores, read_file};
+use config::{Config, NodeConfig};
+use node_stores::NodeStore;
+use node_threads::{Defaults, Life, MOST_SEATS};
+use server::{Beginning, Doors, Ending, Served, Settings, VisibleText, serve};
+use std::alloc::{AllocError, Global};
+use std::marker::Brand;
+use std::net::{Net, TcpListener, TcpStream};
+use std::rt::{Clock, Files, HostRuntime};
+use std::sync::atomic::AtomicBool;
+use std::sync::ledger::Blank;
+use std::sync::{Arc, Wait};
+use std::thread::Threads;
+
+/// Serves by the configuration in a file until it ends: how many entries its journal has. Of several faults that keep it from serving that of the file is told
+/// first, then those of the configuration, the stores and the listeners. Once it serves, Ended or Journal tell why it ended, if it was not asked to.
+///
+/// The lines that tell that it serves come once all stores are open, and all nodes listen.
+pub fn serve_file<
+    R: Threads
+        + Wait
+        + Clock
+        + Eprint
+        + Files
+        + Net<Listener = TcpListener, Stream = TcpStream>
+        + AllocGlobal
+        + Sync,
+>(
+    rt: &R,
+    host: &HostRuntime,
+    path: &str,
+    options: Options,
+    asked: Arc<AtomicBool>,
+) -> Result<usize, ServeFault> {
+    let Configured { config, own } = read_file(rt, path)?;
+    let alloc = rt.alloc();
+    let stores = open_stores(host, alloc, &config.nodes)?;
+    let Some(defaults) = Defaults::make(config.first_serial, config.default_validity) else {
+        return Err(ServeFault::Memory);
+    };
+    let (nodes, lives) = open_all(alloc, stores, defaults)?;
+    let listeners = listen_all(rt, alloc, &config.nodes)?;
+    tell_start(rt, &config, &lives);
+    let beginning = Beginning {
+        blank: Blank::new(MOST_SEATS),
+        nodes,
+    };
+    let doors = Doors { listeners, lives };
+    let settings = Settings {
+        config,
+        own,
+        is_quiet: options.is_quiet,
+        asked,
+    };
+    ended(serve_over(rt, alloc, beginning, doors, settings)?)
+}
+
+/// Serves over nodes that opened.
+fn serve_over<R: Threads + Wait + Clock + Eprint + Sync>(
+    rt: &R,
+    alloc: Global,
+    beginning: Beginning<NodeStore>,
+    doors: Doors,
+    settings: Settings,
+) -> Result<Served<NodeStore>, AllocError>
+    requires parts { beginning.blank.parts ≡ 1000000 }
+    requires begin { AllBegin (cluster_of beginning.nodes.items (defaults_in settings.config)) (kept_at beginning.nodes.items (defaults_in settings.config))
+        beginning.nodes.items }
+{
+    serve::<NodeStore, Brand, R>(rt, alloc, beginning, doors, settings)
+}
+
+/// How many entries the journal of a server has that was asked to end; else why it ended.
+fn ended(served: Served<NodeStore>) -> Result<usize, ServeFault> {
+    let Served { ending, journal } = served;
+    let entries = match &journal {
+        Some(journal) => journal.len(),
+        None => return Err(ServeFault::Journal),
+    };
+    drop(journal);
+    match ending {
+        Ending::Asked => Ok(entries),
+        other => Err(ServeFault::Ended(other)),
+    }
+}
+
+/// Tells where each node listens, in which incarnation, and where its store is, and that the centre serves.
+fn tell_start<R: Eprint>(rt: &R, config: &Config, lives: &[Life]) {
+    for (node, life) in config.nodes.iter().zip(lives) {
+        tell_node(rt, node, life);
+    }
+    let nodes = config.nodes.len();
+    let system_id = VisibleText(config.system_id.octets());
+    let word = if nodes == 1 { "node" } else { "nodes" };
+    let _ = eprintln!(rt; "serving: system_id {system_id}, {nodes} {word}");
+}
+
+/// Tells where a node listens, in which incarnation, and where its store is.
+fn tell_node<R: Eprint>(rt: &R, node: &NodeConfig, life: &Life) {
+    let number = life.node().number();
+    let incarnation = life.incarnation().number();
+    let address = node.listen;
+    let _ = match &node.store {
+        Some(path) => {
+            eprintln!(rt;
+                "node {number}: listens on {address}, incarnation {incarnation}, store {path}"
+            )
+        }
+        None => {
+            eprintln!(rt;
+                "node {number}: listens on {address}, incarnation {incarnation}, store in memory"
+            )
+        }
+    };
+}

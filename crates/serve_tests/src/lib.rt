@@ -1,0 +1,11 @@
+//! Tests of the server with clients in the same process, over loopback.
+#![tactic(auto)]
+
+#[cfg(test)]
+mod clients;
+#[cfg(test)]
+mod once;
+#[cfg(test)]
+mod same;
+#[cfg(test)]
+mod served;

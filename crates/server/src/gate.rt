@@ -1,0 +1,42 @@
+//! The way of a delivery to its ESME.
+
+use crate::berth::Berth;
+use crate::connection::Connection;
+use connection_parts::without_optional;
+use pdu_codec::Pdu;
+use std::alloc::Global;
+use std::sync::Wait;
+use worker_parts::Gate;
+
+/// The way of one delivery to its ESME: over the connection on which it has its place.
+#[derive(Drop)]
+pub(crate) struct BerthGate<'a> {
+    pub(crate) alloc: Global,
+    pub(crate) connection: &'a Connection,
+    pub(crate) berth: &'a Berth,
+    pub(crate) knows_optional: bool,
+    /// Whether the deliver_sm was to go out.
+    pub(crate) is_sent: bool,
+}
+
+impl BerthGate<'_> {
+    /// The octets as the ESME is to get them: without optional parameters, if it knows none. None if there is no memory for them.
+    fn fitted(&self, octets: &[u8]) -> Option<Vec<u8>> {
+        if self.knows_optional {
+            return octets.to_vec(self.alloc).ok();
+        }
+        without_optional(self.alloc, octets).ok()?
+    }
+}
+
+impl<R: Wait> Gate<R> for BerthGate<'_> {
+    fn deliver(&mut self, rt: &R, _account: &[u8], octets: &[u8]) -> Option<Pdu> {
+        let frame = self.fitted(octets)?;
+        if !self.berth.send(rt) {
+            return None;
+        }
+        self.is_sent = true;
+        self.connection.post(rt, frame);
+        self.berth.answered(rt)
+    }
+}

@@ -1,0 +1,194 @@
+//! What comes of a PDU of an ESME.
+
+use crate::notice::Notice;
+use crate::shift::Shift;
+use crate::site::Site;
+use crate::trouble::Trouble;
+use desk::Request;
+use esme_service::{Asked, Heard};
+use node_threads::{Action, Begins, Seat};
+use pdu_tables::Status;
+use sessions::{Outgoing, Requested, Response};
+use stable_store::StableStore;
+use std::alloc::AllocError;
+use std::sync::Wait;
+
+/// What comes of a PDU for who reads it: what the operator is told, and whether the session is gone.
+#[derive(Drop)]
+pub(crate) struct Heeded {
+    pub(crate) notice: Option<Notice>,
+    pub(crate) is_gone: bool,
+}
+
+/// A request of a session.
+struct Asking {
+    number: u8,
+    asked: Asked,
+    request: Request,
+}
+
+/// The octets of a frame came on a session: they are served under the lock of its node's site, so that the reply to a request finds its session.
+pub(crate) fn heed<S: StableStore, L: Begins, R: Wait + Eprint>(
+    shift: &Shift<'_, S, L, R>,
+    seat: &mut Seat<L>,
+    number: u8,
+    frame: &[u8],
+) -> Result<Heeded, Trouble> {
+    let mut guard = shift.station.site.lock(shift.rt);
+    let site = &mut *guard;
+    let heard = site.service.hear(&shift.shared.config, number, frame)?;
+    let heeded = heed_heard(shift, site, seat, number, heard)?;
+    site.post_on(shift.rt, number)?;
+    Ok(heeded)
+}
+
+/// Octets came on a session whose length is not that of a PDU: it is gone.
+pub(crate) fn heed_wrong_length<S: StableStore, L: Begins, R: Wait + Eprint>(
+    shift: &Shift<'_, S, L, R>,
+    number: u8,
+) {
+    let mut guard = shift.station.site.lock(shift.rt);
+    let site = &mut *guard;
+    if let Heard::Gone(outgoing, abandoned) = site.service.hear_wrong_length(number) {
+        drop(abandoned);
+        let _ = site.respond(shift.rt, &shift.shared.config.system_id, number, outgoing);
+    }
+}
+
+fn heed_heard<S: StableStore, L: Begins, R: Wait + Eprint>(
+    shift: &Shift<'_, S, L, R>,
+    site: &mut Site,
+    seat: &mut Seat<L>,
+    number: u8,
+    heard: Heard,
+) -> Result<Heeded, Trouble> {
+    match heard {
+        Heard::Nothing => Ok(told(None)),
+        Heard::Response(outgoing) => Ok(told(respond(shift, site, number, outgoing)?)),
+        Heard::Request(asked, request) => {
+            let asking = Asking {
+                number,
+                asked,
+                request,
+            };
+            Ok(told(ask(shift, site, seat, asking)?))
+        }
+        Heard::Answer(pushed, pdu) => {
+            site.answered(shift.rt, pushed, pdu);
+            Ok(told(None))
+        }
+        Heard::Gone(outgoing, abandoned) => {
+            drop(abandoned);
+            let notice = respond(shift, site, number, outgoing)?;
+            Ok(Heeded {
+                notice,
+                is_gone: true,
+            })
+        }
+    }
+}
+
+/// This is told, and the session goes on.
+fn told(notice: Option<Notice>) -> Heeded {
+    Heeded {
+        notice,
+        is_gone: false,
+    }
+}
+
+/// A response goes out; what the operator is told of it.
+fn respond<S: StableStore, L: Begins, R: Wait + Eprint>(
+    shift: &Shift<'_, S, L, R>,
+    site: &mut Site,
+    number: u8,
+    outgoing: Outgoing,
+) -> Result<Option<Notice>, AllocError> {
+    let system_id = &shift.shared.config.system_id;
+    site.respond(shift.rt, system_id, number, outgoing)?;
+    match outgoing.response {
+        Response::Bound(_, version) => bound(site, number, version),
+        Response::Refused(requested, status) => {
+            site.tally.refused = site.tally.refused.saturating_add(1);
+            Ok(Some(Notice::Refused(requested, status)))
+        }
+        Response::Nack(status) => Ok(Some(Notice::Nacked(status))),
+        Response::Unbound | Response::Linked => Ok(None),
+    }
+}
+
+/// The notice of a session that is bound.
+fn bound(site: &Site, number: u8, version: u8) -> Result<Option<Notice>, AllocError> {
+    let Some(session) = site.service.sessions().get(&number) else {
+        return Ok(None);
+    };
+    let Some(account) = session.account() else {
+        return Ok(None);
+    };
+    Ok(Some(Notice::Bound(session.state(), account.copy()?, version)))
+}
+
+/// A request goes to the node: it waits on its session, or is refused there.
+fn ask<S: StableStore, L: Begins, R: Wait + Eprint>(
+    shift: &Shift<'_, S, L, R>,
+    site: &mut Site,
+    seat: &mut Seat<L>,
+    asking: Asking,
+) -> Result<Option<Notice>, AllocError> {
+    let number = asking.number;
+    let asked = asking.asked;
+    let status = match handed_in(shift, site, seat, asking) {
+        Ok(status) => status,
+        Err(trouble) => {
+            shift.meet(trouble);
+            Some(Status::SystemError)
+        }
+    };
+    match status {
+        Some(status) => respond(shift, site, number, asked.refusal(status)),
+        None => Ok(None),
+    }
+}
+
+/// The status with which the node refuses a request; none if it waits.
+fn handed_in<S: StableStore, L: Begins, R: Wait + Eprint>(
+    shift: &Shift<'_, S, L, R>,
+    site: &mut Site,
+    seat: &mut Seat<L>,
+    asking: Asking,
+) -> Result<Option<Status>, Trouble> {
+    let Asking {
+        number,
+        asked,
+        request,
+    } = asking;
+    let Some(account) = site.service.account(number) else {
+        drop(request);
+        return Ok(None);
+    };
+    let account = match account.copy() {
+        Ok(account) => account,
+        Err(fault) => {
+            drop(request);
+            return Err(Trouble::from(fault));
+        }
+    };
+    let action = Action::Request {
+        node: shift.node(),
+        account,
+        request,
+    };
+    let slip = shift.shared.cluster.act(shift.rt, seat, action)?;
+    shift.shared.ring(shift.rt, &slip);
+    let outputs = slip.outputs();
+    site.service.wait(number, asked, outputs.ticket);
+    site.tally.submits = site.tally.submits.saturating_add(count_of(asked));
+    Ok(outputs.refused)
+}
+
+/// How many submit_sm a request is.
+fn count_of(asked: Asked) -> u64 {
+    match asked.requested {
+        Requested::SubmitSm => 1,
+        _ => 0,
+    }
+}

@@ -1,0 +1,29 @@
+//! The server of a centre: its nodes listen, read and write sessions, tick, carry packets and deliver, in threads.
+#![tactic(auto)]
+
+mod berth;
+mod carriage;
+mod carrying;
+mod connection;
+mod ending;
+mod gate;
+mod hearing;
+mod listening;
+mod living;
+mod log;
+mod notice;
+mod reading;
+mod seat_pool;
+mod serving;
+mod shared;
+mod shift;
+mod site;
+mod starting;
+mod station;
+mod ticking;
+mod trouble;
+mod working;
+
+pub use ending::Ending;
+pub use notice::VisibleText;
+pub use serving::{Beginning, Doors, Served, Settings, serve};

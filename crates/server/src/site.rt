@@ -1,0 +1,336 @@
+//! What stands at a node of a server: the service of its ESMEs, and their connections.
+
+ghost use Rattle.std.specs.Prelude.{◌≡◌};
+
+use crate::berth::Berth;
+use crate::carriage::Carriage;
+use crate::connection::Connection;
+use connection_parts::{Job, Tally};
+use esme_service::{Sending, Service};
+use fate_chain::Chain;
+use mc_types::{Moment, MsgId, Slot};
+use node_threads::{Attempt, Outputs};
+use pdu_codec::{Pdu, SystemId};
+use sessions::{Delivery, Outgoing, Pushed};
+use std::alloc::{AllocError, Global};
+use std::collections::BTreeMap;
+use std::sync::{Arc, Wait};
+use waiting_requests::Reply;
+
+/// How many deliver_sm go out for an account one after another at most: more than all windows of a node have places.
+const MOST_PUSHED: usize = 1_000;
+
+/// What stands at a node of a server: the service of its ESMEs, their connections by the numbers of their sessions, which deliveries are under way, by the
+/// numbers of their messages, and what went on.
+#[derive(Drop)]
+pub(crate) struct Site {
+    alloc: Global,
+    pub(crate) service: Service,
+    connections: BTreeMap<u8, Arc<Connection>>,
+    carried: BTreeMap<u64, Carriage>,
+    clock: Moment,
+    pub(crate) tally: Tally,
+}
+
+impl Site {
+    /// Nobody is connected, at this moment.
+    pub(crate) fn none(alloc: Global, clock: Moment) -> Site {
+        Site {
+            alloc,
+            service: Service::none(alloc),
+            connections: BTreeMap::new(alloc),
+            carried: BTreeMap::new(alloc),
+            clock,
+            tally: Tally::zero(),
+        }
+    }
+
+    /// A connection gets the lowest number of a session that is free, of so many; none if none is. An `Err` is want of memory.
+    pub(crate) fn admit(
+        &mut self,
+        connection: Arc<Connection>,
+        most: u8,
+    ) -> Result<Option<u8>, AllocError> {
+        for number in 1..=most {
+            if !self.connections.contains_key(&number) {
+                self.service.begin(number)?;
+                self.connections.insert(number, connection)?;
+                return Ok(Some(number));
+            }
+        }
+        Ok(None)
+    }
+
+    /// The session of a number is over, and what waits on its connection is the last that goes out there. Its deliveries get no answer.
+    pub(crate) fn leave<R: Wait>(&mut self, rt: &R, number: u8) {
+        let _ = self.service.fail(number);
+        if let Some(connection) = self.connections.remove(&number) {
+            connection.finish(rt);
+        }
+    }
+
+    /// The accounts of which a session may receive. An `Err` is want of memory.
+    pub(crate) fn accounts_up(&self) -> Result<Vec<SystemId>, AllocError> {
+        self.service.accounts_up()
+    }
+
+    /// The greatest moment of its ticks.
+    pub(crate) fn clock(&self) -> Moment {
+        self.clock
+    }
+
+    /// A tick came at this moment.
+    pub(crate) fn pass(&mut self, moment: Moment) {
+        if moment.seconds() > self.clock.seconds() {
+            self.clock = moment;
+        }
+    }
+
+    // What goes out.
+
+    /// These octets go out on the connection of a session, if there is one.
+    fn post<R: Wait>(&self, rt: &R, number: u8, frame: Vec<u8>) {
+        if let Some(connection) = self.connections.get(&number) {
+            connection.post(rt, frame);
+        }
+    }
+
+    /// The response to a PDU of a session goes out; the centre has this system_id. An `Err` is want of memory.
+    pub(crate) fn respond<R: Wait>(
+        &self,
+        rt: &R,
+        system_id: &SystemId,
+        number: u8,
+        outgoing: Outgoing,
+    ) -> Result<(), AllocError> {
+        self.post(rt, number, outgoing.octets(self.alloc, system_id)?);
+        Ok(())
+    }
+
+    /// What the service sends goes out. An `Err` is want of memory.
+    fn send<R: Wait>(&self, rt: &R, sending: &Sending) -> Result<(), AllocError> {
+        if let Some(frame) = sending.octets(self.alloc)? {
+            self.post(rt, sending.number(), frame);
+        }
+        Ok(())
+    }
+
+    /// What a step of the node gave out goes out: replies, and then receipts. An `Err` is want of memory.
+    pub(crate) fn tell<R: Wait>(&mut self, rt: &R, outputs: &Outputs) -> Result<(), AllocError> {
+        if outputs.replies.is_empty() && outputs.receipts.is_empty() {
+            return Ok(());
+        }
+        let Outputs {
+            replies,
+            receipts,
+            ..
+        } = outputs.copy()?;
+        self.reply_all(rt, replies)?;
+        self.report_all(rt, receipts)
+    }
+
+    fn reply_all<R: Wait>(&mut self, rt: &R, replies: Vec<Reply>) -> Result<(), AllocError> {
+        for reply in replies {
+            if let Some(sending) = self.service.reply(reply) {
+                self.send(rt, &sending)?;
+            }
+        }
+        Ok(())
+    }
+
+    fn report_all<R: Wait>(&mut self, rt: &R, chains: Vec<Chain>) -> Result<(), AllocError> {
+        for chain in chains {
+            self.report(rt, chain)?;
+        }
+        Ok(())
+    }
+
+    /// A receipt is due: it waits for its account, and goes out if it can.
+    fn report<R: Wait>(&mut self, rt: &R, chain: Chain) -> Result<(), AllocError> {
+        let account = match chain.submission().submitter.copy() {
+            Ok(account) => account,
+            Err(fault) => {
+                drop(chain);
+                return Err(fault);
+            }
+        };
+        self.service.post(chain)?;
+        self.post_for(rt, &account)
+    }
+
+    /// The receipts that wait for an account go out, as far as its sessions take them. An `Err` is want of memory.
+    fn post_for<R: Wait>(&mut self, rt: &R, account: &SystemId) -> Result<(), AllocError> {
+        for _ in 0..MOST_PUSHED {
+            let Some(sending) = self.service.next_receipt(account, self.clock) else {
+                return Ok(());
+            };
+            self.tally.receipts = self.tally.receipts.saturating_add(1);
+            self.send(rt, &sending)?;
+        }
+        Ok(())
+    }
+
+    /// The receipts that wait for the account of a session go out. An `Err` is want of memory.
+    pub(crate) fn post_on<R: Wait>(&mut self, rt: &R, number: u8) -> Result<(), AllocError> {
+        if !self.service.has_receipts() {
+            return Ok(());
+        }
+        let Some(account) = self.service.account(number) else {
+            return Ok(());
+        };
+        let account = account.copy()?;
+        self.post_for(rt, &account)
+    }
+
+    /// The receipts that wait for these accounts go out. An `Err` is want of memory.
+    fn post_for_all<R: Wait>(&mut self, rt: &R, accounts: &[SystemId]) -> Result<(), AllocError> {
+        for account in accounts {
+            self.post_for(rt, account)?;
+        }
+        Ok(())
+    }
+
+    // Deliveries.
+
+    /// Whether a delivery of a message is under way.
+    pub(crate) fn carries(&self, id: MsgId) -> bool {
+        self.carried.contains_key(&id.number())
+    }
+
+    /// An attempt may be granted: it is given to a worker of the lowest numbered session of its account that has a place in its window. Nothing comes of it if
+    /// no session has. An `Err` is want of memory.
+    pub(crate) fn offer<R: Wait>(&mut self, rt: &R, attempt: Attempt) -> Result<(), AllocError> {
+        let Attempt { slot, account } = attempt;
+        let Some(pushed) = self.service.push(&account, self.clock, slot) else {
+            return Ok(());
+        };
+        let Some(connection) = self.connections.get(&pushed.number) else {
+            self.service.take_back(pushed.number, pushed.sequence);
+            return Ok(());
+        };
+        let Some(place) = connection.give(rt, Job { slot, pushed }) else {
+            self.service.take_back(pushed.number, pushed.sequence);
+            return Ok(());
+        };
+        let carriage = Carriage {
+            number: pushed.number,
+            place,
+        };
+        let _ = self.carried.insert(key_of(slot), carriage)?;
+        Ok(())
+    }
+
+    /// The ESME answered to what was pushed on a session.
+    pub(crate) fn answered<R: Wait>(&self, rt: &R, pushed: Pushed, pdu: Pdu) {
+        let sequence = pushed.sequence;
+        match self.berth_of(pushed.delivery) {
+            Some(berth) => berth.tell(rt, sequence, pdu),
+            None => drop(pdu),
+        }
+    }
+
+    /// The worker's place of the delivery that was pushed, if it is one that is under way.
+    fn berth_of(&self, delivery: Delivery) -> Option<&Berth> {
+        let carriage = self.carried.get(&key_in(delivery)?)?;
+        let connection = self.connections.get(&carriage.number)?;
+        connection.berth(carriage.place)
+    }
+
+    /// A worker is through with its delivery, whose deliver_sm went out, or did not.
+    pub(crate) fn delivered(&mut self, connection: &Connection, job: &Job, is_sent: bool) {
+        let _ = self.carried.remove(&key_of(job.slot));
+        if is_sent {
+            self.tally.deliveries = self.tally.deliveries.saturating_add(1);
+        } else if self.is_at(job.pushed.number, connection) {
+            self.service
+                .take_back(job.pushed.number, job.pushed.sequence);
+        }
+    }
+
+    /// Whether the session of a number is that of this connection: a later session may have the number of one that ended.
+    fn is_at(&self, number: u8, connection: &Connection) -> bool {
+        match self.connections.get(&number) {
+            Some(there) => there.serial == connection.serial,
+            None => false,
+        }
+    }
+
+    /// What was pushed and waits for 30 seconds or more gets no answer any more, and the receipts that wait go out. An `Err` is want of memory.
+    pub(crate) fn make_room<R: Wait>(&mut self, rt: &R) -> Result<(), AllocError> {
+        let overdue = self.service.overdue(self.clock)?;
+        for pushed in &overdue {
+            self.give_up(rt, *pushed);
+        }
+        self.service.let_go_overdue(self.clock);
+        let up = self.service.accounts_up()?;
+        self.post_for_all(rt, &up)
+    }
+
+    /// What was pushed gets no answer any more.
+    fn give_up<R: Wait>(&self, rt: &R, pushed: Pushed) {
+        let sequence = pushed.sequence;
+        if let Some(berth) = self.berth_of(pushed.delivery) {
+            berth.give_up(rt, sequence);
+        }
+    }
+
+    // All connections.
+
+    /// Who reads on a connection reads its end; what waits there goes out.
+    pub(crate) fn stop_reading(&self) {
+        for (_, connection) in &self.connections {
+            connection.stop_reading();
+        }
+    }
+
+    /// All connections are lost.
+    pub(crate) fn lose_all<R: Wait>(&self, rt: &R) {
+        for (_, connection) in &self.connections {
+            connection.lose(rt);
+        }
+    }
+
+    /// The connections are lost on which nobody has bound for so many seconds.
+    pub(crate) fn lose_unbound<R: Wait>(&self, rt: &R, seconds: u32) {
+        for (number, connection) in &self.connections {
+            let is_late = connection.begun.saturating_add(seconds) <= self.clock.seconds();
+            if is_late && self.service.account(*number).is_none() {
+                connection.lose(rt);
+            }
+        }
+    }
+
+    /// Whether nobody is connected.
+    pub(crate) fn is_empty(&self) -> bool {
+        self.connections.is_empty()
+    }
+
+    /// How many are connected.
+    pub(crate) fn len(&self) -> usize {
+        self.connections.len()
+    }
+
+    /// How many requests wait for the node's answer.
+    pub(crate) fn waiting(&self) -> usize {
+        let mut waiting = 0usize;
+        for (_, session) in self.service.sessions() {
+            waiting = waiting.saturating_add(session.requests().len());
+        }
+        waiting
+    }
+}
+
+/// Under which number a delivery is kept, if it is that of an attempt.
+fn key_in(delivery: Delivery) -> Option<u64> {
+    match delivery {
+        Delivery::Attempt(slot) => Some(key_of(slot)),
+        Delivery::Receipt(_) => None,
+    }
+}
+
+/// Under which number the delivery of the attempt in a slot is kept: that of its message, of which one attempt is under way at most.
+fn key_of(slot: Slot) -> u64
+    ensures { result ≡ slot.id }
+{
+    slot.id.number()
+}

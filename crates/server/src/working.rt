@@ -1,0 +1,103 @@
+//! The workers of a connection.
+
+ghost use Rattle.std.specs.Prelude.{◌≡◌};
+
+use crate::berth::Berth;
+use crate::connection::Connection;
+use crate::gate::BerthGate;
+use crate::shift::Shift;
+use crate::trouble::Trouble;
+use connection_parts::Job;
+use node_threads::{Begins, Seat};
+use node_workers::{Heard, Home, tried};
+use stable_store::StableStore;
+use std::sync::Wait;
+
+/// Makes the deliveries that are given to this place of a connection, until it is shut.
+pub(crate) fn work<S: StableStore, L: Begins, R: Wait + Eprint>(
+    shift: &Shift<'_, S, L, R>,
+    connection: &Connection,
+    place: usize,
+) {
+    let Some(berth) = connection.berth(place) else {
+        return;
+    };
+    let Some(mut seat) = shift.seat() else {
+        berth.shut(shift.rt);
+        return;
+    };
+    for _ in shift.rt.forever() {
+        let Some(job) = berth.next_job(shift.rt) else {
+            break;
+        };
+        if let Err(trouble) = deliver(shift, connection, berth, &mut seat, &job) {
+            shift.meet(trouble);
+        }
+    }
+    shift.give_back(seat);
+}
+
+/// Makes a delivery: has its attempt granted, carries it to the ESME, and hands in what came of it. Its place is free then.
+fn deliver<'x, S: StableStore, L: Begins, R: Wait + Eprint>(
+    shift: &Shift<'_, S, L, R>,
+    connection: &'x Connection,
+    berth: &'x Berth,
+    seat: &mut Seat<L>,
+    job: &Job,
+) -> Result<(), Trouble> {
+    let mut gate = BerthGate {
+        alloc: shift.shared.alloc,
+        connection,
+        berth,
+        knows_optional: job.pushed.knows_optional,
+        is_sent: false,
+    };
+    let home = Home {
+        cluster: &shift.shared.cluster,
+        life: shift.life,
+    };
+    let tried = tried(shift.rt, &home, seat, &mut gate, heard_in(job));
+    let is_sent = gate.is_sent;
+    berth.end(shift.rt);
+    let fed = free(shift, connection, job, is_sent);
+    if tried? {
+        ring_last(shift, seat);
+    }
+    fed
+}
+
+/// Of which attempt a worker hears by a delivery: its octets have the sequence_number with which it was pushed.
+fn heard_in(job: &Job) -> Heard
+    ensures id { result.id ≡ job.now.slot.id }
+    ensures sequence { result.sequence ≡ job.now.pushed.sequence }
+{
+    let slot = job.slot;
+    let pushed = job.pushed;
+    Heard {
+        id: slot.id,
+        sequence: pushed.sequence,
+    }
+}
+
+/// The place of a delivery on its session is free: others may be made.
+fn free<S: StableStore, L: Begins, R: Wait + Eprint>(
+    shift: &Shift<'_, S, L, R>,
+    connection: &Connection,
+    job: &Job,
+    is_sent: bool,
+) -> Result<(), Trouble> {
+    let mut guard = shift.station.site.lock(shift.rt);
+    let site = &mut *guard;
+    site.delivered(connection, job, is_sent);
+    shift.feed(site)
+}
+
+/// The packets that the last step of a seat sent are handed in to all nodes.
+fn ring_last<S: StableStore, L: Begins, R: Wait + Eprint>(
+    shift: &Shift<'_, S, L, R>,
+    seat: &Seat<L>,
+) {
+    if let Some(slip) = seat.slips().last() {
+        shift.shared.ring(shift.rt, slip);
+    }
+}
