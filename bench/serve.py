@@ -1,0 +1,155 @@
+#!/usr/bin/env python3
+"""Prints how many messages a second `centre serve` takes and delivers, over 1 and 3 nodes, in memory and over files, and what processor time a message costs.
+
+    python3 bench/serve.py PROGRAM [MESSAGES]
+
+A client at each node binds over a plain socket of 127.0.0.1, keeps ten submit_sm open, and gets its own messages back, each of which it answers at once; no
+receipt is asked for. MESSAGES (1,000) are shared among the clients of a run. Printed for each run are the submit_sm answered in a second, up to the last
+answer; the messages delivered in a second, up to the last deliver_sm; the processor time of `serve` for a message, of /proc/PID/stat, which counts
+hundredths of a second; and how many times a second a plain loop writes a page to a file beside the stores and has it on the disk (fdatasync), just before
+the run and just after it. Clients, server and loop share the processors. A run takes two minutes at most, and then says what was left.
+"""
+import os
+import pathlib
+import shutil
+import sys
+import tempfile
+import time
+
+TOP = pathlib.Path(__file__).resolve().parent.parent
+sys.path.insert(0, str(TOP / "tools" / "clients"))
+
+import pdus
+from plain_esme import Ended, Esme, wait
+from ports import free_ports
+from serving import Serving
+
+WINDOW = 10
+MESSAGES, MOST_MESSAGES = 1_000, 2_000
+SECONDS = 120
+SYNCS, SYNC_SECONDS = 500, 2
+
+
+def write_config(folder, nodes, over_files):
+    """Writes the configuration, and gives the ports of its nodes."""
+    ports = free_ports(nodes)
+    lines = ['system_id = "CENTRE"']
+    for node, port in enumerate(ports, 1):
+        lines += ["[[node]]", f"number = {node}", f'listen = "127.0.0.1:{port}"'] + over_files * [f'store = "{folder}/{node}.db"']
+        lines += ["[[account]]", f'system_id = "load{node}"', 'password = "load"', "transmit = true", "receive = true"]
+        lines += ["[[route]]", f'prefix = "{node}"', f'account = "load{node}"']
+    (folder / "centre.toml").write_text("\n".join(lines) + "\n")
+    return ports
+
+
+class Client:
+    """One client: how many of its messages were sent, answered and delivered, and when the last was."""
+
+    def __init__(self, node, port, messages):
+        self.esme, self.left, self.open = Esme(port), messages, set()
+        self.wanted, self.answered, self.refused = messages, 0, 0
+        self.body = pdus.message_body(b"a message of the load test", source="144", destination=f"{node}55")
+        found = self.esme.bind(f"load{node}", "load")
+        if found is None or found.status != pdus.OK:
+            raise Ended(f"the bind at node {node} was answered {found}")
+
+    def go_on(self):
+        """Takes what was answered, and fills the window."""
+        for sequence in [one for one in self.open if one in self.esme.answers]:
+            self.open.remove(sequence)
+            self.answered += 1
+            self.refused += self.esme.answers.pop(sequence).status != pdus.OK
+        room = min(WINDOW - len(self.open), self.left)
+        if room:
+            frames = [self.esme.framed(pdus.SUBMIT_SM, self.body) for _ in range(room)]
+            self.open.update(range(self.esme.sequence - room + 1, self.esme.sequence + 1))
+            self.left -= room
+            self.esme.send(b"".join(frames))
+
+    def delivered(self):
+        return len(self.esme.delivered)
+
+
+def processor_seconds(process):
+    """The processor time of a process up to now."""
+    fields = pathlib.Path(f"/proc/{process.pid}/stat").read_text().rpartition(")")[2].split()
+    return (int(fields[11]) + int(fields[12])) / os.sysconf("SC_CLK_TCK")
+
+
+def syncs_a_second(folder):
+    """How often a page is written and on the disk, in a second."""
+    path, count, begun = folder / "sync", 0, time.monotonic()
+    with open(path, "wb", buffering=0) as file:
+        while count < SYNCS and time.monotonic() < begun + SYNC_SECONDS:
+            file.write(bytes(4096))
+            os.fdatasync(file.fileno())
+            count += 1
+    path.unlink()
+    return count / (time.monotonic() - begun)
+
+
+def load(clients):
+    """The seconds until all submits were answered, and until all messages were delivered; None for what did not come to its end in time."""
+    begun, esmes, moments = time.monotonic(), [client.esme for client in clients], {}
+
+    def is_done():
+        for client in clients:
+            client.go_on()
+        now = time.monotonic() - begun
+        if "answered" not in moments and all(client.answered == client.wanted for client in clients):
+            moments["answered"] = now
+        if "delivered" not in moments and all(client.delivered() >= client.wanted - client.refused for client in clients):
+            moments["delivered"] = now
+        return len(moments) == 2
+    wait(esmes, is_done, SECONDS)
+    return moments.get("answered"), moments.get("delivered")
+
+
+def run(program, folder, nodes, over_files, messages):
+    """A line of the table."""
+    ports = write_config(folder, nodes, over_files)
+    before = syncs_a_second(folder)
+    serving = Serving(program, folder / "centre.toml", folder)
+    try:
+        if not serving.start():
+            sys.exit(f"serve does not serve: {serving.said()}")
+        share = messages // nodes
+        clients = [Client(node, port, share) for node, port in enumerate(ports, 1)]
+        used = processor_seconds(serving.process)
+        answered, delivered = load(clients)
+        used = processor_seconds(serving.process) - used
+        status = serving.end()
+    except Ended as fault:
+        sys.exit(f"{nodes} nodes: {fault}; {serving.said()}")
+    finally:
+        serving.kill()
+    count, refused = share * nodes, sum(client.refused for client in clients)
+    rates = [f"{count / seconds:,.0f}" if seconds else "not all in time" for seconds in (answered, delivered)]
+    place = "files" if over_files else "memory"
+    line = [nodes, place, f"{count:,}", *rates, f"{1e3 * used / count:.2f} ms", f"{before:,.0f} and {syncs_a_second(folder):,.0f}"]
+    print("| " + " | ".join(map(str, line)) + " |", flush=True)
+    if refused or status != 0 or not delivered:
+        came = sum(client.delivered() for client in clients)
+        print(f"   {refused} submit_sm were refused, {came} messages came, {serving.said()}", flush=True)
+
+
+def main():
+    if len(sys.argv) not in (2, 3):
+        sys.exit(__doc__)
+    program = pathlib.Path(sys.argv[1]).resolve()
+    messages = int(sys.argv[2]) if sys.argv[2:] else MESSAGES
+    if not WINDOW <= messages <= MOST_MESSAGES:
+        sys.exit(f"MESSAGES is {WINDOW} to {MOST_MESSAGES}: three nodes take some 80 steps for each, and the journal has room for 200,000")
+    print("| Nodes | Stores | Messages | Submits answered a second | Delivered a second | Processor time a message | fdatasync a second |")
+    print("|---|---|---|---|---|---|---|", flush=True)
+    for nodes in (1, 3):
+        for over_files in (False, True):
+            folder = pathlib.Path(tempfile.mkdtemp(prefix="serve-"))
+            try:
+                run(program, folder, nodes, over_files, messages)
+            finally:
+                shutil.rmtree(folder)
+
+
+if __name__ == "__main__":
+    main()
