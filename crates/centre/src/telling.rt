@@ -40,7 +40,7 @@ pub fn tell_memory<R: Eprint>(rt: &R) -> ExitCode {
 }
 
 /// How a server ended.
-pub fn tell_served<R: Eprint>(rt: &R, served: Result<usize, ServeFault>) -> ExitCode {
+pub fn tell_served<R: Eprint>(rt: &R, served: Result<u64, ServeFault>) -> ExitCode {
     match served {
         Ok(entries) => {
             let _ = eprintln!(rt; "ended: {entries} entries in the journal");

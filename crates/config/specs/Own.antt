@@ -1,9 +1,9 @@
 -- The table `own` of a configuration: what it says, and its faults (own).
-use Rattle.std.specs.Prelude.{◌≡◌, ℕ, true, false, List, codes, Option, Some, None, IfSome, Result, Ok, Err}
-use Rattle.toml.specs.Data.{Data, get}
+use Rattle.std.specs.Prelude.{◌≡◌, ℕ, Bool, true, false, List, codes, Option, Some, None, IfSome, Result, Ok, Err, is_some}
+use Rattle.toml.specs.Data.{Data, as_str, get}
 use Rattle.config.specs.declared.own.Own.{Own}
 use Rattle.config.specs.declared.own_key.OwnKey.{OwnKey}
-use Rattle.config.specs.declared.own_key.OwnKey.TheVariants.{IdleSeconds, BindSeconds, WriteSeconds, Sessions}
+use Rattle.config.specs.declared.own_key.OwnKey.TheVariants.{IdleSeconds, BindSeconds, WriteSeconds, Sessions, PartEntries}
 use Rattle.config.specs.declared.own_fault.OwnFault.{OwnFault}
 use Rattle.config.specs.declared.own_fault.OwnFault.TheVariants as faults
 pub use Rattle.config.specs.Config.{IsDocument}
@@ -16,6 +16,13 @@ use Rattle.config.specs.Rows.{is_table}
 abbrev pub IsFitOwn : Data → OwnKey → Type 0
 IsFitOwn row key = IfSome (get (own_name key) row) (IsNumberOf 0 (most_in key))
 
+-- `full` has the value "end", or none
+abbrev pub IsFitFull : Data → Type 0
+IsFitFull row = IfSome (get (codes "full") row) (λ value. as_str value ≡ Some (codes "end"))
+
+abbrev pub ends_full_at : Data → Bool
+ends_full_at row = is_some (get (codes "full") row)
+
 -- what stands under a key; 0 if nothing does
 abbrev pub limit_at : Data → OwnKey → ℕ
 limit_at row key = number_at 0 (own_name key) row
@@ -26,6 +33,8 @@ own_at row = record {
   bind_seconds = limit_at row BindSeconds;
   write_seconds = limit_at row WriteSeconds;
   sessions = limit_at row Sessions;
+  part_entries = limit_at row PartEntries;
+  ends_full = ends_full_at row;
 }
 
 -- what a key of a table says, or why not
@@ -33,17 +42,23 @@ abbrev pub IsLimit : Data → OwnKey → Result ℕ OwnFault → Type 0
 IsLimit row key (Ok number) = IsFitOwn row key × (number ≡ limit_at row key)
 IsLimit row key (Err fault) = (¬ IsFitOwn row key) × (fault ≡ faults.BadValue key)
 
+-- what `full` says, or why not
+abbrev pub IsEndsFull : Data → Result Bool OwnFault → Type 0
+IsEndsFull row (Ok ends) = IsFitFull row × (ends ≡ ends_full_at row)
+IsEndsFull row (Err fault) = (¬ IsFitFull row) × (fault ≡ faults.BadFull)
+
 -- what a value under `own` says, or why not
 abbrev pub IsOwnIn : Data → Result Own OwnFault → Type 0
-IsOwnIn row (Ok own) = (is_table row ≡ true) × ((key : OwnKey) → IsFitOwn row key) × (own ≡ own_at row)
+IsOwnIn row (Ok own) = (is_table row ≡ true) × ((key : OwnKey) → IsFitOwn row key) × IsFitFull row × (own ≡ own_at row)
 IsOwnIn row (Err faults.NotToml) = ⊥
 IsOwnIn row (Err faults.NoTable) = is_table row ≡ false
 IsOwnIn row (Err (faults.BadValue key)) = (is_table row ≡ true) × (¬ IsFitOwn row key)
+IsOwnIn row (Err faults.BadFull) = (is_table row ≡ true) × (¬ IsFitFull row)
 IsOwnIn row (Err faults.Memory) = ⊥
 
 -- nothing under `own` is no limit
 abbrev pub no_limits : Own
-no_limits = record { idle_seconds = 0; bind_seconds = 0; write_seconds = 0; sessions = 0 }
+no_limits = record { idle_seconds = 0; bind_seconds = 0; write_seconds = 0; sessions = 0; part_entries = 0; ends_full = false }
 
 abbrev pub IsOwnUnder : Option Data → Result Own OwnFault → Type 0
 IsOwnUnder None result = result ≡ Ok no_limits
@@ -59,4 +74,5 @@ abbrev pub OwnReadsNone : List ℕ → OwnFault → Type 0
 OwnReadsNone octets faults.NotToml = (document : Data) → IsDocument octets document → ⊥
 OwnReadsNone octets faults.NoTable = ⊥
 OwnReadsNone octets (faults.BadValue key) = ⊥
+OwnReadsNone octets faults.BadFull = ⊥
 OwnReadsNone octets faults.Memory = Unit {0}

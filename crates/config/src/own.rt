@@ -23,11 +23,15 @@ pub struct Own {
     pub write_seconds: u32,
     /// How many sessions a node may have.
     pub sessions: u32,
+    /// After how many entries a part of the journal is to end.
+    pub part_entries: u32,
+    /// Whether a server ends once its journal is full, in place of going on with another part.
+    pub ends_full: bool,
 }
 
 /// What the table `own` of a text says (TOML, UTF-8); 0 for each key if there is none. `NotToml` only of what is no TOML; else `NoTable`, if something else stands
-/// there; else `BadValue`, with any of the keys whose value is no whole number from 0 to the greatest that it may have. Other keys are ignored. `Memory` is
-/// want of memory.
+/// there; else `BadValue`, with any of the keys whose value is no whole number from 0 to the greatest that it may have, or `BadFull`, if `full` has another
+/// value than "end". Other keys are ignored. `Memory` is want of memory.
 pub fn read_own(alloc: Global, octets: &[u8]) -> Result<Own, OwnFault>
     ensures { spec.IsOwnOutcome octets.now result }
 {
@@ -39,6 +43,8 @@ pub fn read_own(alloc: Global, octets: &[u8]) -> Result<Own, OwnFault>
             bind_seconds: 0,
             write_seconds: 0,
             sessions: 0,
+            part_entries: 0,
+            ends_full: false,
         }),
     }
 }
@@ -66,6 +72,8 @@ fn own_in(table: &Value) -> Result<Own, OwnFault>
         bind_seconds: limit(table, OwnKey::BindSeconds)?,
         write_seconds: limit(table, OwnKey::WriteSeconds)?,
         sessions: limit(table, OwnKey::Sessions)?,
+        part_entries: limit(table, OwnKey::PartEntries)?,
+        ends_full: ends_full(table)?,
     })
 }
 
@@ -79,5 +87,18 @@ fn limit(table: &Value, key: OwnKey) -> Result<u32, OwnFault>
     match as_number(value) {
         Some(number) if number <= u64::from(key.most()) => Ok(number as u32),
         _ => Err(OwnFault::BadValue(key)),
+    }
+}
+
+/// Whether `full` says that the server ends once its journal is full.
+fn ends_full(table: &Value) -> Result<bool, OwnFault>
+    ensures { spec.IsEndsFull (view table.now) result }
+{
+    let Some(value) = table.get("full") else {
+        return Ok(false);
+    };
+    match value.as_str() {
+        Some(text) if text == "end" => Ok(true),
+        _ => Err(OwnFault::BadFull),
     }
 }

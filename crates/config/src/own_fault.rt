@@ -12,6 +12,8 @@ pub enum OwnFault {
     NoTable,
     /// A value is no whole number of the range of its key.
     BadValue(OwnKey),
+    /// What stands under `full` is not "end".
+    BadFull,
     /// There was no memory.
     Memory,
 }
@@ -28,6 +30,7 @@ impl fmt::Display for OwnFault {
                     key.most()
                 )
             }
+            OwnFault::BadFull => f.write_str("bad value: own.full, which is \"end\" or not there"),
             OwnFault::Memory => f.write_str("there was not enough memory"),
         }
     }

@@ -16,6 +16,8 @@ pub enum OwnKey {
     WriteSeconds,
     /// How many sessions a node may have, at most 65,535.
     Sessions,
+    /// After how many entries a part of the journal is to end, at most 150,000.
+    PartEntries,
 }
 
 /// A day, in seconds.
@@ -23,6 +25,9 @@ const MOST_SECONDS: u32 = 86_400;
 
 /// How many sessions may be given as a limit.
 const MOST_SESSIONS: u32 = 65_535;
+
+/// How many entries may be given for a part of the journal.
+const MOST_PART_ENTRIES: u32 = 150_000;
 
 impl OwnKey {
     /// Its name in the table.
@@ -34,6 +39,7 @@ impl OwnKey {
             OwnKey::BindSeconds => "bind_seconds",
             OwnKey::WriteSeconds => "write_seconds",
             OwnKey::Sessions => "sessions",
+            OwnKey::PartEntries => "part_entries",
         }
     }
 
@@ -44,6 +50,7 @@ impl OwnKey {
         match self {
             OwnKey::IdleSeconds | OwnKey::BindSeconds | OwnKey::WriteSeconds => MOST_SECONDS,
             OwnKey::Sessions => MOST_SESSIONS,
+            OwnKey::PartEntries => MOST_PART_ENTRIES,
         }
     }
 }

@@ -24,18 +24,30 @@ colour = "blue"
         bind_seconds: 0,
         write_seconds: 0,
         sessions: 65_535,
+        part_entries: 0,
+        ends_full: false,
     };
     assert_same(&rt, &own_in(rt.alloc(), text), &Ok(limits));
 }
 
 #[test]
 fn each_limit_has_its_key(rt: HostRuntime) {
-    let text = "[own]\nidle_seconds = 1\nbind_seconds = 2\nwrite_seconds = 3\nsessions = 4\n";
+    let text = r#"
+[own]
+idle_seconds = 1
+bind_seconds = 2
+write_seconds = 3
+sessions = 4
+part_entries = 150000
+full = "end"
+"#;
     let limits = Own {
         idle_seconds: 1,
         bind_seconds: 2,
         write_seconds: 3,
         sessions: 4,
+        part_entries: 150_000,
+        ends_full: true,
     };
     assert_same(&rt, &own_in(rt.alloc(), text), &Ok(limits));
 }
@@ -47,6 +59,8 @@ fn no_table_is_no_limit(rt: HostRuntime) {
         bind_seconds: 0,
         write_seconds: 0,
         sessions: 0,
+        part_entries: 0,
+        ends_full: false,
     };
     assert_same(&rt, &own_in(rt.alloc(), "system_id = \"C\"\n"), &Ok(limits));
 }
@@ -59,6 +73,18 @@ fn what_is_no_limit_is_told(rt: HostRuntime) {
     assert_same(&rt, &own_in(alloc, "[own]\nidle_seconds = 86401\n"), &late);
     assert_same(&rt, &own_in(alloc, "[own]\nidle_seconds = \"60\"\n"), &late);
     assert_same(&rt, &own_in(alloc, "[own]\nsessions = -1\n"), &many);
+    let long = Err(OwnFault::BadValue(OwnKey::PartEntries));
+    assert_same(&rt, &own_in(alloc, "[own]\npart_entries = 150001\n"), &long);
+    assert_same(
+        &rt,
+        &own_in(alloc, "[own]\nfull = \"goes on\"\n"),
+        &Err(OwnFault::BadFull),
+    );
+    assert_same(
+        &rt,
+        &own_in(alloc, "[own]\nfull = 1\n"),
+        &Err(OwnFault::BadFull),
+    );
     assert_same(&rt, &own_in(alloc, "own = 60\n"), &Err(OwnFault::NoTable));
     assert_same(&rt, &own_in(alloc, "[own\n"), &Err(OwnFault::NotToml));
 }

@@ -1,11 +1,11 @@
 -- What a worker is told answers a deliver_sm that went out.
-use Rattle.std.proofs.Common.{◌≡◌, ℕ, ◌⊎◌, Bool, true, false, cond, List, [], ◌∷◌, Some, None, is_some, refl, ap, inl, inr, arith}
+use Rattle.std.proofs.Common.{◌≡◌, ℕ, ◌⊎◌, Bool, true, false, cond, List, [], ◌∷◌, Option, Some, None, is_some, refl, ap, inl, inr, arith}
 use Rattle.std.proofs.lemmas.Bool.Decides.{nat_tests}
 use Rattle.pdu_bodies.specs.declared.pdu.Pdu.{Pdu}
 use Rattle.connection_parts.specs.declared.place.Job.{Job}
 use Rattle.connection_parts.specs.declared.place.Step.{Step}
-use Rattle.connection_parts.specs.declared.place.Step.TheVariants.{Given, Taken, Sent, Told}
-use Rattle.connection_parts.specs.Places.{Place, answer_of, can_send, counted, has, is_free, job_of, taken_step, told_step}
+use Rattle.connection_parts.specs.declared.place.Step.TheVariants.{Given, Spoilt, Taken, Sent, Told}
+use Rattle.connection_parts.specs.Places.{Place, answer_of, can_send, counted, has, is_free, job_of, over, taken_step, told_step}
 use Rattle.connection_parts.specs.Laws.{Call, Give, Take, Send, Answer, GiveUp, Tell, End, Shut, IsAnswered, IsOut, after, after_all, is_end}
 
 -- ---- what is so after a call was so before, if the call does not make it so
@@ -14,13 +14,22 @@ of_choice : {A : Type 0} (P : A → Type 0) (b : Bool) (other x : A) → P (cond
 of_choice P true other x is never = never is
 of_choice P false other x is never = is
 
-of_take : (P : Step → Type 0) (step : Step) → P (taken_step step) → ((job : Job) → P (Taken job) → P step) → P step
-of_take P (Given job) is never = never job is
-of_take P step is never = is
+of_take : (P : Step → Type 0) (step : Step) → P (taken_step step) → ((job : Job) → P (Taken job) → P step) → (P (Told None) → P step) → P step
+of_take P (Given job) is never never_over = never job is
+of_take P (Spoilt job) is never never_over = never_over is
+of_take P step is never never_over = is
 
 of_tell : (P : Step → Type 0) (step : Step) → P (told_step step) → (P (Told None) → P step) → P step
 of_tell P (Told answer) is never = never is
 of_tell P step is never = is
+
+never_sent : (step : Step) (answer : Option Pdu) (job : Job) → over step answer ≡ Sent job → ⊥
+never_sent (Given other) answer job is = cc
+never_sent step answer job is = cc
+
+never_told : (step : Step) (pdu : Pdu) → answer_of (over step None) ≡ Some pdu → ⊥
+never_told (Given other) pdu is = cc
+never_told step pdu is = cc
 
 -- ---- how a job comes to be sent
 
@@ -36,14 +45,16 @@ by_send step false job is = inl (is, refl)
 
 sent_by : (place : Place) (call : Call) (job : Job) → (after place call).step ≡ Sent job → IsSentBy place call job
 sent_by place (Give given) job is = inl (of_choice (λ (p : Place). p.step ≡ Sent job) (is_free place) _ place is (λ sent. cc), refl)
-sent_by place Take job is = inl (of_take (λ step. step ≡ Sent job) place.step is (λ other sent. cc), refl)
+sent_by place Take job is = inl (of_take (λ step. step ≡ Sent job) place.step is (λ other sent. cc) (λ sent. cc), refl)
 sent_by place Send job is = by_send place.step place.is_shut job is
 sent_by place (Answer sequence pdu) job is =
-    inl (of_choice (λ (p : Place). p.step ≡ Sent job) (has place.step sequence) _ place is (λ sent. cc), refl)
-sent_by place (GiveUp sequence) job is = inl (of_choice (λ (p : Place). p.step ≡ Sent job) (has place.step sequence) _ place is (λ sent. cc), refl)
+    inl (of_choice (λ (p : Place). p.step ≡ Sent job) (has place.step sequence) _ place is (λ sent. absurd (never_sent place.step _ job sent)), refl)
+sent_by place (GiveUp sequence) job is =
+    inl (of_choice (λ (p : Place). p.step ≡ Sent job) (has place.step sequence) _ place is (λ sent. absurd (never_sent place.step None job sent)), refl)
 sent_by place Tell job is = inl (of_tell (λ step. step ≡ Sent job) place.step is (λ sent. cc), refl)
 sent_by place End job is = cc
-sent_by place Shut job is = inl (of_choice (λ step. step ≡ Sent job) (is_some (job_of place.step)) _ place.step is (λ sent. cc), refl)
+sent_by place Shut job is =
+    inl (of_choice (λ step. step ≡ Sent job) (is_some (job_of place.step)) _ place.step is (λ sent. absurd (never_sent place.step None job sent)), refl)
 
 out_since : (call : Call) (before : List Call) (job : Job) → IsOut before job → is_end call ≡ false → IsOut (call ∷ before) job
 out_since call before job out goes_on = record {
@@ -86,10 +97,11 @@ before_send (Taken other) false pdu is = cc
 before_send step false pdu is = is
 
 by_answer : (step : Step) (is_shut : Bool) (sequence : ℕ) (other pdu : Pdu) (b : Bool) → has step sequence ≡ b
-    → answer_of (cond {A = Place} b (record { step = Told (counted step other); is_shut = is_shut }) (record { step = step; is_shut = is_shut })).step
+    → answer_of (cond {A = Place} b (record { step = over step (counted step other); is_shut = is_shut }) (record { step = step; is_shut = is_shut })).step
     ≡ Some pdu
     → IsToldBy (record { step = step; is_shut = is_shut }) (Answer sequence other) pdu
 by_answer step is_shut sequence other pdu false is_its is = inl (is, refl)
+by_answer (Given job) is_shut sequence other pdu true is_its is = cc
 by_answer (Sent job) is_shut sequence other pdu true is_its is =
     let same : job.pushed.sequence ≡ sequence = grind (arith, nat_tests) in
     inr (job, cc, refl)
@@ -97,14 +109,15 @@ by_answer step is_shut sequence other pdu true is_its is = cc
 
 told_by : (place : Place) (call : Call) (pdu : Pdu) → answer_of (after place call).step ≡ Some pdu → IsToldBy place call pdu
 told_by place (Give given) pdu is = inl (of_choice (λ (p : Place). answer_of p.step ≡ Some pdu) (is_free place) _ place is (λ told. cc), refl)
-told_by place Take pdu is = inl (of_take (λ step. answer_of step ≡ Some pdu) place.step is (λ other told. cc), refl)
+told_by place Take pdu is = inl (of_take (λ step. answer_of step ≡ Some pdu) place.step is (λ other told. cc) (λ told. cc), refl)
 told_by place Send pdu is = inl (before_send place.step place.is_shut pdu is, refl)
 told_by place (Answer sequence other) pdu is = by_answer place.step place.is_shut sequence other pdu (has place.step sequence) refl is
 told_by place (GiveUp sequence) pdu is =
-    inl (of_choice (λ (p : Place). answer_of p.step ≡ Some pdu) (has place.step sequence) _ place is (λ told. cc), refl)
+    inl (of_choice (λ (p : Place). answer_of p.step ≡ Some pdu) (has place.step sequence) _ place is (λ told. absurd (never_told place.step pdu told)), refl)
 told_by place Tell pdu is = inl (of_tell (λ step. answer_of step ≡ Some pdu) place.step is (λ told. cc), refl)
 told_by place End pdu is = cc
-told_by place Shut pdu is = inl (of_choice (λ step. answer_of step ≡ Some pdu) (is_some (job_of place.step)) _ place.step is (λ told. cc), refl)
+told_by place Shut pdu is =
+    inl (of_choice (λ step. answer_of step ≡ Some pdu) (is_some (job_of place.step)) _ place.step is (λ told. absurd (never_told place.step pdu told)), refl)
 
 answered_since : (call : Call) (before : List Call) (pdu : Pdu) → IsAnswered before pdu → is_end call ≡ false → IsAnswered (call ∷ before) pdu
 answered_since call before pdu answered goes_on = record {

@@ -1,4 +1,4 @@
-pub mod Outboxes
+pub mod FrameQueues
 pub mod Places
 pub mod Laws
 pub mod Fitting

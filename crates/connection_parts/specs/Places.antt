@@ -4,7 +4,7 @@ use Rattle.std.specs.Option.{option_map_or}
 use Rattle.pdu_bodies.specs.declared.pdu.Pdu.{Pdu}
 use Rattle.connection_parts.specs.declared.place.Job.{Job}
 use Rattle.connection_parts.specs.declared.place.Step.{Step}
-use Rattle.connection_parts.specs.declared.place.Step.TheVariants.{Free, Given, Taken, Sent, Told}
+use Rattle.connection_parts.specs.declared.place.Step.TheVariants.{Free, Given, Spoilt, Taken, Sent, Told}
 
 pub record Place : Type 0 where
   pub step : Step
@@ -30,12 +30,14 @@ is_sent _ = false
 -- the job that waits to be taken
 abbrev pub job_given : Step → Option Job
 job_given (Given job) = Some job
+job_given (Spoilt job) = Some job
 job_given _ = None
 
 -- the job that is not over
 abbrev pub job_of : Step → Option Job
 job_of Free = None
 job_of (Given job) = Some job
+job_of (Spoilt job) = None
 job_of (Taken job) = Some job
 job_of (Sent job) = Some job
 job_of (Told answer) = None
@@ -62,6 +64,7 @@ given place job = if is_free place then record place { step = Given job } else p
 
 abbrev pub taken_step : Step → Step
 taken_step (Given job) = Taken job
+taken_step (Spoilt job) = Told None
 taken_step step = step
 
 abbrev pub taken : Place → Place
@@ -85,11 +88,16 @@ abbrev pub counted : Step → Pdu → Option Pdu
 counted (Sent job) pdu = Some pdu
 counted _ pdu = None
 
+-- a job that is over has this answer; one that is not taken yet is taken first, and has none
+abbrev pub over : Step → Option Pdu → Step
+over (Given job) answer = Spoilt job
+over _ answer = Told answer
+
 abbrev pub answered : Place → ℕ → Pdu → Place
-answered place sequence pdu = if has place.step sequence then record place { step = Told (counted place.step pdu) } else place
+answered place sequence pdu = if has place.step sequence then record place { step = over place.step (counted place.step pdu) } else place
 
 abbrev pub given_up : Place → ℕ → Place
-given_up place sequence = if has place.step sequence then record place { step = Told None } else place
+given_up place sequence = if has place.step sequence then record place { step = over place.step None } else place
 
 -- the answer is told once
 abbrev pub told_step : Step → Step
@@ -103,7 +111,7 @@ abbrev pub ended : Place → Place
 ended place = record place { step = Free }
 
 abbrev pub shut_step : Step → Step
-shut_step step = if is_some (job_of step) then Told None else step
+shut_step step = if is_some (job_of step) then over step None else step
 
 abbrev pub shut : Place → Place
 shut place = record { step = shut_step place.step; is_shut = true }

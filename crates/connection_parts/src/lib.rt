@@ -4,13 +4,13 @@
 mod fitting;
 mod laws;
 mod moments;
-mod outbox;
+mod frame_queue;
 mod place;
 mod tally;
 
 pub use fitting::without_optional;
 pub use laws::only_what_was_sent_is_answered;
 pub use moments::moment_at;
-pub use outbox::{MANY_FRAMES, MOST_FRAMES, Outbox};
+pub use frame_queue::{FrameQueue, MANY_FRAMES, MOST_FRAMES};
 pub use place::{Job, Place};
 pub use tally::Tally;

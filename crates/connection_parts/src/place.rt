@@ -23,6 +23,8 @@ enum Step {
     Free,
     /// The worker is to take it.
     Given(Job),
+    /// The worker is to take it, but it is over already: it ends without an answer.
+    Spoilt(Job),
     /// Its deliver_sm is not sent yet.
     Taken(Job),
     /// Its deliver_sm may have gone out, and is not answered yet.
@@ -37,7 +39,7 @@ impl Step {
         ensures { result ≡ places.job_given self.now }
     {
         match self {
-            Step::Given(job) => Some(*job),
+            Step::Given(job) | Step::Spoilt(job) => Some(*job),
             _ => None,
         }
     }
@@ -48,8 +50,19 @@ impl Step {
     {
         match self {
             Step::Given(job) | Step::Taken(job) | Step::Sent(job) => Some(*job),
-            Step::Free | Step::Told(_) => None,
+            Step::Free | Step::Spoilt(_) | Step::Told(_) => None,
         }
+    }
+
+    /// The step once its job is over with this answer: one that is not taken yet is taken first.
+    fn over(&self, answer: Option<Pdu>) -> Step
+        ensures { result ≡ places.over self.now answer }
+    {
+        if let Step::Given(job) = self {
+            drop(answer);
+            return Step::Spoilt(*job);
+        }
+        Step::Told(answer)
     }
 
     /// Whether the job that is not over has this sequence_number.
@@ -123,14 +136,19 @@ impl Place {
         self.is_free()
     }
 
-    /// The worker takes the job that is given to it; none, and nothing changes, if none is.
+    /// The worker takes the job that is given to it; none, and nothing changes, if none is. One that is over already ends then, and its deliver_sm does not
+    /// go out.
     pub fn take(&mut self) -> Option<Job>
         ensures job { result ≡ places.job_given self.old.step }
         ensures after { self.new ≡ places.taken self.old }
     {
         let given = self.step.given()?;
-        self.go(Step::Taken(given));
-        self.step.job()
+        let step = match self.step {
+            Step::Given(job) => Step::Taken(job),
+            _ => Step::Told(None),
+        };
+        self.go(step);
+        Some(given)
     }
 
     /// Whether the deliver_sm may go out: the job is taken, and the place is not shut. Then it counts as sent; else nothing changes.
@@ -164,7 +182,8 @@ impl Place {
         let is_concluded = self.step.has(sequence);
         let answer = matches!(self.step, Step::Sent(_)).then_some(pdu);
         if is_concluded {
-            self.go(Step::Told(answer));
+            let step = self.step.over(answer);
+            self.go(step);
         } else {
             drop(answer);
         }
@@ -179,9 +198,17 @@ impl Place {
     {
         let is_given_up = self.step.has(sequence);
         if is_given_up {
-            self.go(Step::Told(None));
+            let step = self.step.over(None);
+            self.go(step);
         }
         is_given_up
+    }
+
+    /// The job that is not over, if there is one.
+    pub fn job(&self) -> Option<Job>
+        ensures { result ≡ places.job_of self.now.step }
+    {
+        self.step.job()
     }
 
     /// The answer with which the job ended, which is given once; none if it ended without one, or has not ended.
@@ -208,7 +235,8 @@ impl Place {
     {
         self.is_shut = true;
         if self.step.job().is_some() {
-            self.go(Step::Told(None));
+            let step = self.step.over(None);
+            self.go(step);
         }
     }
 

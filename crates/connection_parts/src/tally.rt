@@ -10,18 +10,21 @@ pub struct Tally {
     pub deliveries: u64,
     pub receipts: u64,
     pub refused: u64,
+    /// Final states that were told, in answers and in receipts.
+    pub fates: u64,
 }
 
 impl Tally {
     /// Nothing went on.
     pub fn zero() -> Tally
-        ensures { result ≡ record { submits = 0; deliveries = 0; receipts = 0; refused = 0 } }
+        ensures { result ≡ record { submits = 0; deliveries = 0; receipts = 0; refused = 0; fates = 0 } }
     {
         Tally {
             submits: 0,
             deliveries: 0,
             receipts: 0,
             refused: 0,
+            fates: 0,
         }
     }
 
@@ -31,12 +34,14 @@ impl Tally {
         ensures deliveries { result.deliveries ≡ sum_of self.deliveries other.deliveries }
         ensures receipts { result.receipts ≡ sum_of self.receipts other.receipts }
         ensures refused { result.refused ≡ sum_of self.refused other.refused }
+        ensures fates { result.fates ≡ sum_of self.fates other.fates }
     {
         Tally {
             submits: self.submits.saturating_add(other.submits),
             deliveries: self.deliveries.saturating_add(other.deliveries),
             receipts: self.receipts.saturating_add(other.receipts),
             refused: self.refused.saturating_add(other.refused),
+            fates: self.fates.saturating_add(other.fates),
         }
     }
 }

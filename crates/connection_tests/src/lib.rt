@@ -6,7 +6,7 @@ mod fitting;
 #[cfg(test)]
 mod numbers;
 #[cfg(test)]
-mod outboxes;
+mod frame_queues;
 #[cfg(test)]
 mod places;
 #[cfg(test)]

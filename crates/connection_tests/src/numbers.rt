@@ -29,12 +29,14 @@ fn counts_stay_at_their_greatest_value(rt: HostRuntime) {
         deliveries: 2,
         receipts: 3,
         refused: u64::MAX,
+        fates: 4,
     };
     let both = Tally {
         submits: 2,
         deliveries: 4,
         receipts: 6,
         refused: u64::MAX,
+        fates: 8,
     };
     assert_same(&rt, &some.plus(some), &both);
     assert_same(&rt, &Tally::zero().plus(some), &some);

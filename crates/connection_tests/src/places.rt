@@ -62,10 +62,29 @@ fn an_answer_to_what_was_not_sent_tells_nothing(rt: HostRuntime) {
     let mut place = Place::free();
     let given = [place.give(job(&rt, 7)), place.give(job(&rt, 8))];
     let answered = place.answer(7, answer(7));
-    let late = (place.take().is_none(), place.send(), told(&mut place));
+    let late = (place.take(), place.send(), told(&mut place));
+    let over = (place.take().is_none(), place.is_idle());
     drop(place);
     assert_same(&rt, &(given, answered), &([true, false], true));
-    assert_same(&rt, &late, &(true, false, None));
+    assert_same(&rt, &late, &(Some(job(&rt, 7)), false, None));
+    assert_same(&rt, &over, &(true, false));
+}
+
+#[test]
+fn a_job_that_is_over_before_it_is_taken_is_taken_once(rt: HostRuntime) {
+    let mut place = Place::free();
+    let given = [place.give(job(&rt, 7)), place.give_up(7)];
+    let idle = [place.is_idle(), place.is_free()];
+    let late = (place.take(), place.take().is_none(), place.send());
+    place.end();
+    let again = [place.give(job(&rt, 8)), place.is_idle()];
+    place.shut();
+    let shut = (place.take(), place.send(), place.take().is_none());
+    drop(place);
+    assert_same(&rt, &(given, idle), &([true, true], [false, false]));
+    assert_same(&rt, &late, &(Some(job(&rt, 7)), true, false));
+    assert_same(&rt, &again, &[true, false]);
+    assert_same(&rt, &shut, &(Some(job(&rt, 8)), false, true));
 }
 
 #[test]

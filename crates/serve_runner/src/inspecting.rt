@@ -35,7 +35,7 @@ fn print_nodes<R: Print>(rt: &R, nodes: &[NodeConfig]) -> io::Result<()> {
     Ok(())
 }
 
-/// Prints the limits of sessions.
+/// Prints the limits of sessions and of the journal.
 fn print_limits<R: Print>(rt: &R, own: Own) {
     print_limit(rt, "a session ends if no octet comes", own.idle_seconds);
     print_limit(rt, "a session ends if nobody binds", own.bind_seconds);
@@ -47,6 +47,13 @@ fn print_limits<R: Print>(rt: &R, own: Own) {
     if own.sessions > 0 {
         let sessions = own.sessions;
         let _ = println!(rt; "a node has {sessions} sessions at most");
+    }
+    if own.part_entries > 0 {
+        let entries = own.part_entries;
+        let _ = println!(rt; "a part of the journal has some {entries} entries");
+    }
+    if own.ends_full {
+        let _ = println!(rt; "it ends once its journal is full");
     }
 }
 

@@ -21,8 +21,9 @@ use std::sync::ledger::Blank;
 use std::sync::{Arc, Wait};
 use std::thread::Threads;
 
-/// Serves by the configuration in a file until it ends: how many entries its journal has. Of several faults that keep it from serving that of the file is told
-/// first, then those of the configuration, the stores and the listeners. Once it serves, Ended or Journal tell why it ended, if it was not asked to.
+/// Serves by the configuration in a file until it ends: how many entries its journal has, in all its parts. Of several faults that keep it from serving that of
+/// the file is told first, then those of the configuration, the stores and the listeners. Once it serves, Ended or Journal tell why it ended, if it was not
+/// asked to.
 ///
 /// The lines that tell that it serves come once all stores are open, and all nodes listen.
 pub fn serve_file<
@@ -40,7 +41,7 @@ pub fn serve_file<
     path: &str,
     options: Options,
     asked: Arc<AtomicBool>,
-) -> Result<usize, ServeFault> {
+) -> Result<u64, ServeFault> {
     let Configured { config, own } = read_file(rt, path)?;
     let alloc = rt.alloc();
     let stores = open_stores(host, alloc, &config.nodes)?;
@@ -80,12 +81,16 @@ fn serve_over<R: Threads + Wait + Clock + Eprint + Sync>(
 }
 
 /// How many entries the journal of a server has that was asked to end; else why it ended.
-fn ended(served: Served<NodeStore>) -> Result<usize, ServeFault> {
-    let Served { ending, journal } = served;
-    let entries = match &journal {
-        Some(journal) => journal.len(),
-        None => return Err(ServeFault::Journal),
-    };
+fn ended(served: Served<NodeStore>) -> Result<u64, ServeFault> {
+    let Served {
+        ending,
+        entries,
+        journal,
+        ..
+    } = served;
+    if journal.is_none() {
+        return Err(ServeFault::Journal);
+    }
     drop(journal);
     match ending {
         Ending::Asked => Ok(entries),

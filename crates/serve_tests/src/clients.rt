@@ -4,22 +4,117 @@ use std::alloc::Global;
 use std::io::{Read, Write};
 use std::net::{Net, SocketAddr, TcpListener, TcpStream};
 use std::process::Abort;
+use std::rt::Clock;
+use std::thread;
+use std::time::Duration;
+
+/// What a client does.
+#[derive(Clone, Copy, Debug, PartialEq, Eq)]
+pub enum Client {
+    /// It binds, and submits a message.
+    Plain,
+    /// It binds, and submits twice, the first in vain.
+    Stubborn,
+    /// It binds as a transmitter, and submits so many messages, 80 milliseconds apart.
+    Steady(u32),
+}
+
+impl Client {
+    /// What it hears: all, or what comes after each submit_sm.
+    pub fn heard<R: Abort + Clock + Net<Listener = TcpListener, Stream = TcpStream>>(
+        self,
+        rt: &R,
+        alloc: Global,
+        address: SocketAddr,
+    ) -> Vec<Vec<u8>> {
+        match self {
+            Client::Plain => talked(rt, alloc, address, &PLAIN),
+            Client::Stubborn => talked(rt, alloc, address, &STUBBORN),
+            Client::Steady(count) => submitted(rt, alloc, address, count),
+        }
+    }
+}
 
 /// What a client writes, and how many octets it reads before it writes the next.
-pub type Turn = (&'static [u8], usize);
+type Turn = (&'static [u8], usize);
 
-/// The octets that each of these clients reads, one client after another.
-pub fn talked<R: Abort + Net<Listener = TcpListener, Stream = TcpStream>>(
+/// bind_transceiver of sme1 with the password pw1, interface_version 0x34 and the sequence_number 1.
+pub const BIND: &[u8] = b"\0\0\0\x1e\0\0\0\x09\0\0\0\0\0\0\0\x01sme1\0pw1\0\0\x34\0\0\0";
+
+/// Its answer: ESME_ROK, CENTRE, and the version 0x34 of the centre.
+pub const BOUND: &[u8] = b"\0\0\0\x1c\x80\0\0\x09\0\0\0\0\0\0\0\x01CENTRE\0\x02\x10\0\x01\x34";
+
+/// bind_transmitter of the same, whose answer is as long.
+const BIND_TRANSMITTER: &[u8] =
+    b"\0\0\0\x1e\0\0\0\x02\0\0\0\0\0\0\0\x01sme1\0pw1\0\0\x34\0\0\0";
+
+/// The command and its status behind which a sequence_number stands in a submit_sm, and what stands behind that: from 144 to 155, the text Hi.
+const BEFORE: &[u8] = b"\0\0\0\x29\0\0\0\x04\0\0\0\0";
+const BEHIND: &[u8] = b"\0\x01\x01144\0\x01\x01155\0\0\0\0\0\0\0\0\0\0\x02Hi";
+
+/// submit_sm from 144 to 155 with the text Hi and the sequence_number 2.
+const SUBMIT: &[u8] =
+    b"\0\0\0\x29\0\0\0\x04\0\0\0\0\0\0\0\x02\0\x01\x01144\0\x01\x01155\0\0\0\0\0\0\0\0\0\0\x02Hi";
+
+/// Its answer: ESME_ROK, and the message_id 1000100001: of the first incarnation of node 1.
+pub const TAKEN: &[u8] = b"\0\0\0\x1b\x80\0\0\x04\0\0\0\0\0\0\0\x021000100001\0";
+
+/// The answer to it if the node starts anew meanwhile: ESME_RSYSERR.
+pub const REFUSED: &[u8] = b"\0\0\0\x10\x80\0\0\x04\0\0\0\x08\0\0\0\x02";
+
+/// The same submit_sm with the sequence_number 3.
+const SUBMIT_AGAIN: &[u8] =
+    b"\0\0\0\x29\0\0\0\x04\0\0\0\0\0\0\0\x03\0\x01\x01144\0\x01\x01155\0\0\0\0\0\0\0\0\0\0\x02Hi";
+
+/// Its answer: ESME_ROK, and the message_id 1000200001: of the second incarnation.
+pub const TAKEN_ANEW: &[u8] = b"\0\0\0\x1b\x80\0\0\x04\0\0\0\0\0\0\0\x031000200001\0";
+
+/// What a client does that binds and submits a message.
+const PLAIN: [Turn; 2] = [(BIND, BOUND.len()), (SUBMIT, TAKEN.len())];
+
+/// What one does that submits twice, the first in vain.
+const STUBBORN: [Turn; 3] = [
+    (BIND, BOUND.len()),
+    (SUBMIT, REFUSED.len()),
+    (SUBMIT_AGAIN, TAKEN_ANEW.len()),
+];
+
+/// What a client hears after each of so many submit_sm.
+fn submitted<R: Abort + Clock + Net<Listener = TcpListener, Stream = TcpStream>>(
     rt: &R,
     alloc: Global,
     address: SocketAddr,
-    clients: &[&[Turn]],
+    count: u32,
+) -> Vec<Vec<u8>> {
+    let mut stream = TcpStream::connect(rt, address).expect(rt, "a connection");
+    let mut heard = Vec::new(alloc);
+    stream.write_all(BIND_TRANSMITTER).expect(rt, "a write");
+    let mut bound = Vec::new(alloc);
+    let _ = read_on(rt, &mut stream, &mut bound, BOUND.len());
+    for place in 0..count {
+        let sequence = place.saturating_add(2).to_be_bytes();
+        let submit = [BEFORE, &sequence, BEHIND]
+            .concat(alloc)
+            .expect(rt, "memory");
+        stream.write_all(&submit).expect(rt, "a write");
+        let mut answer = Vec::new(alloc);
+        let _ = read_on(rt, &mut stream, &mut answer, TAKEN.len());
+        heard.push(answer).expect(rt, "memory");
+        thread::sleep(rt, Duration::from_millis(80));
+    }
+    heard
+}
+
+/// All that a client hears that takes these turns.
+fn talked<R: Abort + Net<Listener = TcpListener, Stream = TcpStream>>(
+    rt: &R,
+    alloc: Global,
+    address: SocketAddr,
+    turns: &[Turn],
 ) -> Vec<Vec<u8>> {
     let mut heard = Vec::new(alloc);
-    for turns in clients {
-        let octets = talked_once(rt, alloc, address, turns);
-        heard.push(octets).expect(rt, "memory");
-    }
+    let octets = talked_once(rt, alloc, address, turns);
+    heard.push(octets).expect(rt, "memory");
     heard
 }
 

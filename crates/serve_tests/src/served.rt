@@ -2,10 +2,9 @@
 
 ghost use Rattle.std.specs.Prelude.{◌≡◌};
 ghost use Rattle.node_threads.specs.Actions.{AllBegin};
-ghost use Rattle.node_threads.specs.Defaults.{from_one};
 ghost use Rattle.node_threads.specs.Openings.{cluster_of, kept_at};
 
-use crate::clients::{Turn, talked};
+use crate::clients::Client;
 use config::{Config, Own};
 use node_threads::{Defaults, Life, Node, open_nodes, opened_nodes_begin};
 use server::{Beginning, Doors, Ending, Served, Settings, serve};
@@ -24,38 +23,59 @@ use std::thread::Threads;
 /// How many parts a ledger of slips has.
 const PARTS: u64 = 1_000_000;
 
+/// What a test serves: this client, over a node whose incarnations begin with this serial, and parts of the journal of so many entries.
+#[derive(Clone, Copy, Debug)]
+pub struct Case {
+    pub client: Client,
+    pub first_serial: u32,
+    pub part_entries: u32,
+}
+
+impl Case {
+    /// This client, over a node and a journal as a configuration has them that does not say it.
+    pub fn of(client: Client) -> Case {
+        Case {
+            client,
+            first_serial: 1,
+            part_entries: 0,
+        }
+    }
+}
+
+/// How a server ended, and how many parts its journal had.
+#[derive(Clone, Copy, Debug, PartialEq, Eq)]
+pub struct Ended {
+    pub ending: Ending,
+    pub parts: u64,
+}
+
 /// One node over this store.
 fn opened<S: StableStore + Drop>(
     rt: &impl Abort,
     alloc: Global,
     store: S,
+    defaults: Defaults,
 ) -> (Vec<Node<S>>, Vec<Life>)
-    ensures { AllBegin (cluster_of result.0.items (from_one 259200)) (kept_at result.0.items (from_one 259200)) result.0.items }
+    ensures { AllBegin (cluster_of result.0.items defaults) (kept_at result.0.items defaults) result.0.items }
 {
     let mut stores = Vec::new(alloc);
     if stores.push(store).is_err() {
         panic!(rt; "memory");
     }
     opened_nodes_begin::<S>();
-    match open_nodes(alloc, stores, defaults(rt)) {
+    match open_nodes(alloc, stores, defaults) {
         Ok(opened) => opened,
         Err(_) => panic!(rt; "it opens"),
     }
 }
 
-/// What the node goes by.
-fn defaults(rt: &impl Abort) -> Defaults
-    ensures { result ≡ from_one 259200 }
-{
-    Defaults::make(1, 259200).expect(rt, "defaults")
-}
-
-/// The configuration of scripts, by which the server ends after so many sessions.
-fn settings(rt: &impl Abort, alloc: Global, stop_after: u64) -> Settings {
+/// The configuration of scripts for a case, by which the server ends after its session.
+fn settings(rt: &impl Abort, alloc: Global, case: Case) -> Settings {
     let config = Config::of_scripts(alloc).expect(rt, "memory");
     Settings {
         config: Config {
-            stop_after,
+            stop_after: 1,
+            first_serial: case.first_serial,
             ..config
         },
         own: Own {
@@ -63,34 +83,82 @@ fn settings(rt: &impl Abort, alloc: Global, stop_after: u64) -> Settings {
             bind_seconds: 0,
             write_seconds: 0,
             sessions: 0,
+            part_entries: case.part_entries,
+            ends_full: false,
         },
-        is_quiet: true,
+        is_quiet: false,
         asked: Arc::new(alloc, AtomicBool::new(false)).expect(rt, "memory"),
     }
 }
 
-/// How a server ends over these nodes.
-fn ending<S: StableStore + Send + Sync + Drop, R: Threads + Wait + Eprint + Clock + Abort + Sync>(
-    rt: &R,
-    alloc: Global,
+/// A server that is to begin, and what its node goes by.
+#[derive(Drop)]
+struct Opening<S: StableStore> {
     beginning: Beginning<S>,
     doors: Doors,
     settings: Settings,
-) -> Ending
-    requires parts { beginning.blank.parts ≡ 1000000 }
-    requires begin { AllBegin (cluster_of beginning.nodes.items (from_one 259200)) (kept_at beginning.nodes.items (from_one 259200)) beginning.nodes.items }
+    defaults: Defaults,
+}
+
+/// A server over this store, which listens here.
+fn made<S: StableStore + Drop>(
+    rt: &impl Abort,
+    alloc: Global,
+    store: S,
+    listener: TcpListener,
+    case: Case,
+) -> Opening<S>
+    ensures parts { result.beginning.blank.parts ≡ 1000000 }
+    ensures begin { AllBegin (cluster_of result.beginning.nodes.items result.defaults) (kept_at result.beginning.nodes.items result.defaults)
+        result.beginning.nodes.items }
 {
+    let mut listeners = Vec::new(alloc);
+    listeners.push(listener).expect(rt, "memory");
+    let defaults = Defaults::make(case.first_serial, 259200).expect(rt, "defaults");
+    let (nodes, lives) = opened(rt, alloc, store, defaults);
+    Opening {
+        beginning: Beginning {
+            blank: Blank::new(PARTS),
+            nodes,
+        },
+        doors: Doors { listeners, lives },
+        settings: settings(rt, alloc, case),
+        defaults,
+    }
+}
+
+/// How a server ends.
+fn finished<S: StableStore + Send + Sync + Drop, R: Threads + Wait + Eprint + Clock + Abort + Sync>(
+    rt: &R,
+    alloc: Global,
+    start: Opening<S>,
+) -> Ended
+    requires parts { start.beginning.blank.parts ≡ 1000000 }
+    requires begin { AllBegin (cluster_of start.beginning.nodes.items start.defaults) (kept_at start.beginning.nodes.items start.defaults)
+        start.beginning.nodes.items }
+{
+    let Opening {
+        beginning,
+        doors,
+        settings,
+        ..
+    } = start;
     match serve::<S, Brand, R>(rt, alloc, beginning, doors, settings) {
-        Ok(Served { ending, journal }) => {
+        Ok(Served {
+            ending,
+            parts,
+            journal,
+            ..
+        }) => {
             assert!(rt; journal.is_some());
             drop(journal);
-            ending
+            Ended { ending, parts }
         }
         Err(_) => panic!(rt; "memory"),
     }
 }
 
-/// What clients hear one after another that take these turns, and how the server ends over this store once each had its session.
+/// What the client of a case hears, and how the server ends over this store once its session has.
 pub fn served<
     S: StableStore + Send + Sync + Drop,
     R: Threads
@@ -100,29 +168,22 @@ pub fn served<
         + Abort
         + Net<Listener = TcpListener, Stream = TcpStream>
         + Sync,
->(rt: &R, alloc: Global, store: S, clients: &[&[Turn]]) -> (Vec<Vec<u8>>, Ending) {
+>(rt: &R, alloc: Global, store: S, case: Case) -> (Vec<Vec<u8>>, Ended) {
     let listener = TcpListener::bind(rt, "127.0.0.1:0").expect(rt, "a port");
     let address = listener.local_addr().expect(rt, "an address");
-    let mut listeners = Vec::new(alloc);
-    listeners.push(listener).expect(rt, "memory");
-    let (nodes, lives) = opened(rt, alloc, store);
-    let beginning = Beginning {
-        blank: Blank::new(PARTS),
-        nodes,
-    };
-    let doors = Doors { listeners, lives };
-    let settings = settings(rt, alloc, clients.len() as u64);
+    let start = made(rt, alloc, store, listener, case);
     thread::scope(
         thread::scope_env(),
         rt,
-        move |scope| -> (Vec<Vec<u8>>, Ending)
-            requires { (beginning.blank.parts ≡ 1000000)
-                × AllBegin (cluster_of beginning.nodes.items (from_one 259200)) (kept_at beginning.nodes.items (from_one 259200)) beginning.nodes.items }
+        move |scope| -> (Vec<Vec<u8>>, Ended)
+            requires { (start.beginning.blank.parts ≡ 1000000)
+                × AllBegin (cluster_of start.beginning.nodes.items start.defaults) (kept_at start.beginning.nodes.items start.defaults)
+                    start.beginning.nodes.items }
         {
-            let client = scope.spawn(move || talked(rt, alloc, address, clients));
-            let ending = ending(rt, alloc, beginning, doors, settings);
+            let client = scope.spawn(move || case.client.heard(rt, alloc, address));
+            let ended = finished(rt, alloc, start);
             match client {
-                Ok(client) => (client.join(rt), ending),
+                Ok(client) => (client.join(rt), ended),
                 Err(_) => panic!(rt; "a thread"),
             }
         },

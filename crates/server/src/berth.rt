@@ -2,6 +2,7 @@
 
 use connection_parts::{Job, Place};
 use pdu_codec::Pdu;
+use std::sync::atomic::{AtomicBool, Ordering};
 use std::sync::{Condvar, Mutex, Wait};
 
 /// A worker's place on a connection, under its lock: who has a delivery gives it there, and who reads what the ESME answers tells it there.
@@ -29,11 +30,19 @@ impl Berth {
         is_given
     }
 
-    /// The next delivery that is given; it waits for one. None once the place is shut.
-    pub(crate) fn next_job<R: Wait>(&self, rt: &R) -> Option<Job> {
+    /// The next delivery that is given; it waits for one. None once the place is shut, or workers rest.
+    pub(crate) fn next_job<R: Wait>(&self, rt: &R, rests: &AtomicBool) -> Option<Job> {
         let place = self.place.lock(rt);
-        let mut place = self.changed.wait_while(rt, place, |place| place.is_idle());
+        let mut place = self.changed.wait_while(rt, place, |place| {
+            place.is_idle() && !rests.load(Ordering::SeqCst)
+        });
         place.take()
+    }
+
+    /// Who waits looks again whether it has to.
+    pub(crate) fn wake<R: Wait>(&self, rt: &R) {
+        drop(self.place.lock(rt));
+        self.changed.notify_all();
     }
 
     /// Whether the deliver_sm may go out now; an answer to it counts from then on.
@@ -60,6 +69,18 @@ impl Berth {
         if self.place.lock(rt).give_up(sequence) {
             self.changed.notify_all();
         }
+    }
+
+    /// What was pushed by the delivery of the place gets no answer any more; whether there is one that is not over.
+    pub(crate) fn give_up_any<R: Wait>(&self, rt: &R) -> bool {
+        let mut place = self.place.lock(rt);
+        let Some(job) = place.job() else {
+            return false;
+        };
+        let is_given_up = place.give_up(job.pushed.sequence);
+        drop(place);
+        self.changed.notify_all();
+        is_given_up
     }
 
     /// The worker is through with its delivery: the place is free.

@@ -14,10 +14,10 @@ use std::sync::atomic::Ordering;
 /// in the next life.
 pub(crate) fn carry_on<S: StableStore, L: Begins, R: Wait + Eprint>(shift: &Shift<'_, S, L, R>) {
     let Some(mut seat) = shift.seat() else {
-        shift.shared.end.set(shift.rt, Ending::Threads);
+        shift.shared.house.end.set(shift.rt, Ending::Threads);
         return;
     };
-    hand_in(shift, &mut seat, shift.shared.newest());
+    hand_in(shift, &mut seat, shift.shared.house.newest());
     for wake in shift.station.woken.iter(shift.rt) {
         match wake {
             Wake::End => break,
@@ -67,7 +67,7 @@ fn carry<S: StableStore, L: Begins, R: Wait + Eprint>(
     let node = shift.node();
     let packet = Action::Deliver { number, node };
     let slip = shift.shared.cluster.act(shift.rt, seat, packet)?;
-    shift.shared.ring(shift.rt, &slip);
+    shift.shared.house.ring(shift.rt, &slip);
     let outputs = slip.outputs();
     let chosen = chosen_by(&slip);
     if outputs.replies.is_empty() && outputs.receipts.is_empty() && chosen.is_none() {
@@ -77,6 +77,7 @@ fn carry<S: StableStore, L: Begins, R: Wait + Eprint>(
     let site = &mut *guard;
     site.tell(shift.rt, outputs)?;
     if let Some(id) = chosen
+        && !shift.holds()
         && !site.carries(id)
         && let Some(attempt) = shift.shared.cluster.attempt(shift.rt, node, id)?
     {

@@ -1,16 +1,20 @@
 //! A connection with an ESME.
 
 use crate::berth::Berth;
-use connection_parts::{Job, Outbox};
+use crate::inbox::{Inbox, Next};
+use crate::notice::Reason;
+use connection_parts::{FrameQueue, Job};
 use octet_io::CountedWriter;
 use std::alloc::{AllocError, Global};
 use std::net::{Shutdown, TcpStream};
+use std::sync::atomic::{AtomicBool, Ordering};
 use std::sync::{Condvar, Mutex, Wait};
 
 /// How many deliveries of a connection are under way at most: as many as its window has places.
 pub(crate) const WORKERS: usize = 10;
 
-/// A connection with an ESME: its stream, what waits to be written on it, and the places of its workers. Threads share it.
+/// A connection with an ESME: its stream, what came and waits to be served, what waits to be written, and the places of its workers. Threads share it: who reads
+/// and who writes from its begin to its end, who serves and the workers in each life of their node.
 #[derive(Drop)]
 pub(crate) struct Connection {
     /// Which of all connections it is: no other has its number, though a later session may have the number of its session.
@@ -18,9 +22,15 @@ pub(crate) struct Connection {
     /// When it began, in seconds since 1970.
     pub(crate) begun: u32,
     pub(crate) stream: TcpStream,
-    outbox: Mutex<Outbox>,
+    inbox: Mutex<Inbox>,
+    came: Condvar,
+    outbox: Mutex<FrameQueue>,
     changed: Condvar,
     berths: Vec<Berth>,
+    /// Whether who serves and the workers rest, until the next life of their node.
+    rests: AtomicBool,
+    /// Whether somebody serves in this life of its node.
+    is_attended: AtomicBool,
 }
 
 impl Connection {
@@ -39,11 +49,58 @@ impl Connection {
             serial,
             begun,
             stream,
-            outbox: Mutex::new(Outbox::make(alloc)?),
+            inbox: Mutex::new(Inbox::make(alloc)?),
+            came: Condvar::new(),
+            outbox: Mutex::new(FrameQueue::make(alloc)?),
             changed: Condvar::new(),
             berths,
+            rests: AtomicBool::new(false),
+            is_attended: AtomicBool::new(false),
         })
     }
+
+    // What comes.
+
+    /// Waits until another PDU may be read; whether one may.
+    pub(crate) fn may_read<R: Wait>(&self, rt: &R) -> bool {
+        let inbox = self.inbox.lock(rt);
+        let inbox = self.came.wait_while(rt, inbox, |inbox| !inbox.has_room());
+        !inbox.is_shut()
+    }
+
+    /// The octets of a PDU came.
+    pub(crate) fn take_in<R: Wait>(&self, rt: &R, frame: Vec<u8>) {
+        self.inbox.lock(rt).put(frame);
+        self.came.notify_all();
+    }
+
+    /// Nothing more comes, for this reason.
+    pub(crate) fn end_input<R: Wait>(&self, rt: &R, reason: Reason) {
+        self.inbox.lock(rt).end(reason);
+        self.came.notify_all();
+    }
+
+    /// What comes next, for which it waits; Rest if that is to wait for the next life of the node.
+    pub(crate) fn next<R: Wait>(&self, rt: &R) -> Next {
+        let inbox = self.inbox.lock(rt);
+        let mut inbox = self
+            .came
+            .wait_while(rt, inbox, |inbox| inbox.is_idle() && !self.is_resting());
+        if self.is_resting() {
+            return Next::Rest;
+        }
+        let next = inbox.next();
+        drop(inbox);
+        self.came.notify_all();
+        next
+    }
+
+    /// Who reads reads its end; what waits to be written goes out.
+    pub(crate) fn stop_reading(&self) {
+        let _ = self.stream.shutdown(Shutdown::Read);
+    }
+
+    // What goes out.
 
     /// The octets of a PDU are to go out, behind those that wait. If too many wait, the connection is lost.
     pub(crate) fn post<R: Wait>(&self, rt: &R, frame: Vec<u8>) {
@@ -57,12 +114,14 @@ impl Connection {
         }
     }
 
-    /// Waits until so few PDUs wait to be written that the next one of the ESME may be read.
-    pub(crate) fn wait_to_read<R: Wait>(&self, rt: &R) {
+    /// Waits until so few PDUs wait to be written that the next one of the ESME may be served, or that is to wait for the next life of the node.
+    pub(crate) fn wait_to_serve<R: Wait>(&self, rt: &R) {
         let outbox = self.outbox.lock(rt);
         drop(
             self.changed
-                .wait_while(rt, outbox, |outbox| !outbox.may_read()),
+                .wait_while(rt, outbox, |outbox| {
+                    !outbox.has_room() && !self.is_resting()
+                }),
         );
     }
 
@@ -92,8 +151,12 @@ impl Connection {
         frame
     }
 
-    /// Nothing more is to be written but what waits, and no worker delivers on it any more.
+    // Its end, and its rest.
+
+    /// Nothing more is to be served, nor to be written but what waits, and no worker delivers on it any more.
     pub(crate) fn finish<R: Wait>(&self, rt: &R) {
+        self.inbox.lock(rt).cut();
+        self.came.notify_all();
         self.outbox.lock(rt).shut();
         self.changed.notify_all();
         self.shut_berths(rt);
@@ -112,10 +175,35 @@ impl Connection {
         self.outbox.lock(rt).is_shut()
     }
 
-    /// Who reads reads its end; what waits to be written goes out.
-    pub(crate) fn stop_reading(&self) {
-        let _ = self.stream.shutdown(Shutdown::Read);
+    /// Who serves and the workers are to rest, once they are through with what they do.
+    pub(crate) fn rest<R: Wait>(&self, rt: &R) {
+        self.rests.store(true, Ordering::SeqCst);
+        drop(self.inbox.lock(rt));
+        self.came.notify_all();
+        drop(self.outbox.lock(rt));
+        self.changed.notify_all();
+        for berth in &self.berths {
+            berth.wake(rt);
+        }
     }
+
+    /// Another life of the node begins, in which nobody serves yet.
+    pub(crate) fn go_on(&self) {
+        self.rests.store(false, Ordering::SeqCst);
+        self.is_attended.store(false, Ordering::SeqCst);
+    }
+
+    /// Somebody is to serve, if nobody does yet; whether that is so.
+    pub(crate) fn begin_attending(&self) -> bool {
+        !self.is_attended.swap(true, Ordering::SeqCst)
+    }
+
+    /// Whether who serves and the workers rest.
+    pub(crate) fn is_resting(&self) -> bool {
+        self.rests.load(Ordering::SeqCst)
+    }
+
+    // Its workers.
 
     fn shut_berths<R: Wait>(&self, rt: &R) {
         for berth in &self.berths {
@@ -126,6 +214,11 @@ impl Connection {
     /// Gives a delivery to a worker that is free: its place. None if no one is.
     pub(crate) fn give<R: Wait>(&self, rt: &R, job: Job) -> Option<usize> {
         self.berths.iter().position(|berth| berth.give(rt, job))
+    }
+
+    /// The next delivery for the worker of a place of this number; it waits for one. None if the place is shut, or the worker is to rest.
+    pub(crate) fn next_job<R: Wait>(&self, rt: &R, place: usize) -> Option<Job> {
+        self.berth(place)?.next_job(rt, &self.rests)
     }
 
     /// The worker's place of this number, below 10.

@@ -20,6 +20,16 @@ pub(crate) struct Heeded {
     pub(crate) is_gone: bool,
 }
 
+impl Heeded {
+    /// Whether the session is bound by it so that it may receive.
+    pub(crate) fn binds_receiver(&self) -> bool {
+        match &self.notice {
+            Some(Notice::Bound(state, _, _)) => state.may_receive(),
+            _ => false,
+        }
+    }
+}
+
 /// A request of a session.
 struct Asking {
     number: u8,
@@ -36,7 +46,7 @@ pub(crate) fn heed<S: StableStore, L: Begins, R: Wait + Eprint>(
 ) -> Result<Heeded, Trouble> {
     let mut guard = shift.station.site.lock(shift.rt);
     let site = &mut *guard;
-    let heard = site.service.hear(&shift.shared.config, number, frame)?;
+    let heard = site.service.hear(&shift.shared.house.config, number, frame)?;
     let heeded = heed_heard(shift, site, seat, number, heard)?;
     site.post_on(shift.rt, number)?;
     Ok(heeded)
@@ -51,7 +61,7 @@ pub(crate) fn heed_wrong_length<S: StableStore, L: Begins, R: Wait + Eprint>(
     let site = &mut *guard;
     if let Heard::Gone(outgoing, abandoned) = site.service.hear_wrong_length(number) {
         drop(abandoned);
-        let _ = site.respond(shift.rt, &shift.shared.config.system_id, number, outgoing);
+        let _ = site.respond(shift.rt, &shift.shared.house.config.system_id, number, outgoing);
     }
 }
 
@@ -103,7 +113,7 @@ fn respond<S: StableStore, L: Begins, R: Wait + Eprint>(
     number: u8,
     outgoing: Outgoing,
 ) -> Result<Option<Notice>, AllocError> {
-    let system_id = &shift.shared.config.system_id;
+    let system_id = &shift.shared.house.config.system_id;
     site.respond(shift.rt, system_id, number, outgoing)?;
     match outgoing.response {
         Response::Bound(_, version) => bound(site, number, version),
@@ -178,17 +188,12 @@ fn handed_in<S: StableStore, L: Begins, R: Wait + Eprint>(
         request,
     };
     let slip = shift.shared.cluster.act(shift.rt, seat, action)?;
-    shift.shared.ring(shift.rt, &slip);
+    shift.shared.house.ring(shift.rt, &slip);
     let outputs = slip.outputs();
     site.service.wait(number, asked, outputs.ticket);
-    site.tally.submits = site.tally.submits.saturating_add(count_of(asked));
-    Ok(outputs.refused)
-}
-
-/// How many submit_sm a request is.
-fn count_of(asked: Asked) -> u64 {
-    match asked.requested {
-        Requested::SubmitSm => 1,
-        _ => 0,
+    if asked.requested == Requested::SubmitSm {
+        site.tally.submits = site.tally.submits.saturating_add(1);
+        shift.station.count_serial();
     }
+    Ok(outputs.refused)
 }

@@ -1,6 +1,7 @@
 //! The server of a centre: its nodes listen, read and write sessions, tick, carry packets and deliver, in threads.
 #![tactic(auto)]
 
+mod attending;
 mod berth;
 mod carriage;
 mod carrying;
@@ -8,10 +9,14 @@ mod connection;
 mod ending;
 mod gate;
 mod hearing;
+mod house;
+mod inbox;
 mod listening;
 mod living;
 mod log;
 mod notice;
+mod pace;
+mod parts;
 mod reading;
 mod seat_pool;
 mod serving;

@@ -2,12 +2,11 @@
 
 use crate::connection::Connection;
 use crate::ending::Ending;
+use crate::house::House;
 use crate::notice::Notice;
-use crate::shift::Shift;
-use crate::starting::{Arrival, start_reader};
+use crate::starting::{Arrival, start_reader, start_writer};
+use crate::station::Station;
 use crate::ticking::now;
-use node_threads::Begins;
-use stable_store::StableStore;
 use std::alloc::AllocError;
 use std::net::{SocketAddr, TcpStream};
 use std::rt::Clock;
@@ -25,71 +24,79 @@ const WRITE_SECONDS: u32 = 30;
 /// How long the thread that listens sleeps if nobody connects, in milliseconds.
 const PAUSE: u64 = 20;
 
-/// Lets ESMEs connect, until the life of the node is over.
-pub(crate) fn listen_on<
-    's,
-    E,
-    S: StableStore + Send + Sync,
-    L: Begins + Send + Sync,
-    R: Threads + Wait + Eprint + Clock + Sync,
->(shift: &Shift<'s, S, L, R>, scope: &'s Scope<'s, E>) {
-    for _ in shift.rt.forever() {
-        if shift.is_over() {
+/// Lets ESMEs connect to a node, until the server ends.
+pub(crate) fn listen_on<'o, O, R: Threads + Wait + Eprint + Clock + Sync>(
+    rt: &'o R,
+    outer: &'o Scope<'o, O>,
+    house: &'o House,
+    station: &'o Station,
+) {
+    for _ in rt.forever() {
+        if house.is_over(rt) {
             return;
         }
-        match shift.station.listener.accept() {
+        match station.listener.accept() {
             Ok((stream, address)) => {
-                if admit(shift, scope, stream, address).is_err() {
-                    shift.shared.end.set(shift.rt, Ending::Threads);
+                if let Some(arrival) = admitted(rt, house, station, stream, address)
+                    && start(rt, outer, house, &arrival).is_err()
+                {
+                    house.end.set(rt, Ending::Threads);
                 }
             }
-            Err(_) => thread::sleep(shift.rt, Duration::from_millis(PAUSE)),
+            Err(_) => thread::sleep(rt, Duration::from_millis(PAUSE)),
         }
     }
 }
 
-/// An ESME connected: it has a session, and a thread that reads it. One for which there is no place or no memory is closed. An `Err` is that no thread can be
-/// started.
-fn admit<
-    's,
-    E,
-    S: StableStore + Send + Sync,
-    L: Begins + Send + Sync,
-    R: Threads + Wait + Eprint + Clock + Sync,
->(
-    shift: &Shift<'s, S, L, R>,
-    scope: &'s Scope<'s, E>,
+/// Starts the threads of a connection. An `Err` is that one can't be started.
+fn start<'o, O, R: Threads + Wait + Sync>(
+    rt: &'o R,
+    outer: &'o Scope<'o, O>,
+    house: &House,
+    arrival: &Arrival,
+) -> Result<(), AllocError> {
+    start_writer(rt, outer, &arrival.connection)?;
+    start_reader(rt, outer, house.alloc, &arrival.connection)
+}
+
+/// An ESME connected: it has a session, which its node serves. One for which there is no place or no memory is closed.
+fn admitted<R: Wait + Eprint + Clock>(
+    rt: &R,
+    house: &House,
+    station: &Station,
     stream: TcpStream,
     address: SocketAddr,
-) -> Result<(), AllocError> {
-    let Ok(Some(arrival)) = placed(shift, stream) else {
-        let node = shift.node().number();
-        shift.shared.log.line(
-            shift.rt,
+) -> Option<Arrival> {
+    let Ok(Some(arrival)) = placed(rt, house, station, stream) else {
+        let node = station.node.number();
+        house.log.line(
+            rt,
             format_args!("node {node}: no place for a session from {address}"),
         );
-        return Ok(());
+        return None;
     };
-    shift.tell(arrival.number, Notice::Connected(address));
-    start_reader(shift, scope, arrival)
+    house.tell(rt, station.node, arrival.number, Notice::Connected(address));
+    Some(arrival)
 }
 
 /// A connection over a stream, at the site of the node, and the number of its session. None if the node has as many as it may.
-fn placed<S: StableStore, L: Begins, R: Wait + Eprint + Clock>(
-    shift: &Shift<'_, S, L, R>,
+fn placed<R: Wait + Eprint + Clock>(
+    rt: &R,
+    house: &House,
+    station: &Station,
     stream: TcpStream,
 ) -> Result<Option<Arrival>, AllocError> {
-    if set_up(shift, &stream).is_err() {
+    if set_up(house, &stream).is_err() {
         return Ok(None);
     }
-    let alloc = shift.shared.alloc;
-    let serial = shift.shared.counters.next_connection();
-    let begun = now(shift.rt).seconds();
+    let alloc = house.alloc;
+    let serial = house.counters.next_connection();
+    let begun = now(rt).seconds();
     let connection = Arc::new(alloc, Connection::make(alloc, serial, begun, stream)?)?;
     let theirs = Arc::try_clone(&connection)?;
-    let mut guard = shift.station.site.lock(shift.rt);
+    let mut guard = station.site.lock(rt);
     let site = &mut *guard;
-    match site.admit(theirs, most_sessions(shift.shared.own.sessions))? {
+    match site.admit(theirs, most_sessions(house.own.sessions))? {
         Some(number) => Ok(Some(Arrival { connection, number })),
         None => Ok(None),
     }
@@ -104,11 +111,8 @@ fn most_sessions(limit: u32) -> u8 {
 }
 
 /// How long a read and a write on a stream may take.
-fn set_up<S: StableStore, L: Begins, R: Wait + Eprint + Clock>(
-    shift: &Shift<'_, S, L, R>,
-    stream: &TcpStream,
-) -> io::Result<()> {
-    let own = shift.shared.own;
+fn set_up(house: &House, stream: &TcpStream) -> io::Result<()> {
+    let own = house.own;
     stream.set_nonblocking(false)?;
     stream.set_nodelay(true)?;
     let seconds = if own.write_seconds == 0 {

@@ -1,26 +1,28 @@
 //! A node of the server, in one life after another.
 
 use crate::ending::Ending;
-use crate::listening::listen_on;
 use crate::shared::Shared;
 use crate::shift::Shift;
-use crate::site::Site;
-use crate::starting::{start_packets, start_ticks};
+use crate::starting::{start_attendant, start_packets, start_ticks};
 use crate::station::{Station, Wake};
-use crate::ticking::{now, tick_first};
+use crate::ticking::tick_first;
+use mc_types::MsgId;
 use node_threads::{Begins, Life, Refusal};
 use stable_store::StableStore;
 use std::rt::Clock;
 use std::sync::Wait;
 use std::sync::atomic::Ordering;
 use std::thread;
-use std::thread::Threads;
+use std::thread::{Scope, Threads};
 use std::time::Duration;
 
 /// How often it is looked whether all sessions of a node have ended, 50 milliseconds apart, before they are cut: for a second.
 const LOOKS: u32 = 20;
 
-/// Runs a node in one life after another, until the server ends.
+/// How often it is looked whether somebody connected, in milliseconds.
+const PAUSE: u64 = 10;
+
+/// Runs a node in one life after another, until the part of the journal is over or the server ends.
 pub(crate) fn live_on<
     S: StableStore + Send + Sync,
     L: Begins + Send + Sync,
@@ -32,21 +34,37 @@ pub(crate) fn live_on<
             return;
         };
         live(rt, shared, station, &now);
-        life = if shared.is_over(rt) {
-            drop(now);
-            None
-        } else {
-            next_life(rt, shared, station, now)
-        };
+        life = after(rt, shared, station, now);
     }
 }
 
-/// Runs a node in one of its lives, until its store fails or the server ends.
+/// The life of a node behind this one, if it has another in this part of the journal. If the part is over, the life goes on in the next one.
+fn after<S: StableStore, L: Begins, R: Wait + Eprint + Clock>(
+    rt: &R,
+    shared: &Shared<S, L>,
+    station: &Station,
+    life: Life,
+) -> Option<Life> {
+    if shared.house.pace.rests() || shared.house.is_over(rt) {
+        keep(rt, station, life);
+        return None;
+    }
+    next_life(rt, shared, station, life)
+}
+
+/// The life of a node is kept for the next part of the journal.
+fn keep<R: Wait>(rt: &R, station: &Station, life: Life) {
+    let mut place = station.life.lock(rt);
+    drop(place.replace(life));
+}
+
+/// Runs a node in one of its lives, until it is to start anew, the part of the journal is over, or the server ends.
 fn live<
     S: StableStore + Send + Sync,
     L: Begins + Send + Sync,
     R: Threads + Wait + Eprint + Clock + Sync,
 >(rt: &R, shared: &Shared<S, L>, station: &Station, life: &Life) {
+    station.site.lock(rt).go_on();
     thread::scope(thread::scope_env(), rt, |scope| {
         let shift = Shift {
             rt,
@@ -57,13 +75,60 @@ fn live<
         start_packets(&shift, scope);
         tick_first(&shift);
         start_ticks(&shift, scope);
-        listen_on(&shift, scope);
+        feed_first(&shift);
+        for _ in rt.forever() {
+            if shift.is_over() {
+                break;
+            }
+            start_attendants(&shift, scope);
+            thread::sleep(rt, Duration::from_millis(PAUSE));
+        }
         end_life(&shift);
     });
 }
 
-/// The life is over: sessions read their end, what waits on them goes out for a second, and then they are cut.
+/// What may be granted is delivered as the life begins.
+fn feed_first<S: StableStore, L: Begins, R: Wait + Eprint>(shift: &Shift<'_, S, L, R>) {
+    let mut guard = shift.station.site.lock(shift.rt);
+    let site = &mut *guard;
+    if let Err(trouble) = shift.feed(site) {
+        shift.meet(trouble);
+    }
+}
+
+/// Starts the threads that serve those sessions that nobody serves yet.
+fn start_attendants<
+    's,
+    E,
+    S: StableStore + Send + Sync,
+    L: Begins + Send + Sync,
+    R: Threads + Wait + Eprint + Clock + Sync,
+>(shift: &Shift<'s, S, L, R>, scope: &'s Scope<'s, E>) {
+    let unattended = shift.station.site.lock(shift.rt).unattended();
+    let Ok(arrivals) = unattended else {
+        shift.shared.house.end.set(shift.rt, Ending::Threads);
+        return;
+    };
+    for arrival in arrivals {
+        start_attendant(shift, scope, arrival);
+    }
+}
+
+/// The life is over. If the server ends, sessions read their end, what waits on them goes out for a second, and then they are cut. Else who serves them rests,
+/// and what is delivered gets no answer any more.
 fn end_life<S: StableStore, L: Begins, R: Wait + Eprint + Clock>(shift: &Shift<'_, S, L, R>) {
+    if shift.shared.house.is_over(shift.rt) {
+        end_sessions(shift);
+    } else {
+        let site = shift.station.site.lock(shift.rt);
+        let given_up = site.give_up_all(shift.rt);
+        shift.shared.house.pace.count_cut(given_up);
+        site.rest(shift.rt);
+    }
+    shift.station.wake(shift.rt, Wake::End);
+}
+
+fn end_sessions<S: StableStore, L: Begins, R: Wait + Eprint + Clock>(shift: &Shift<'_, S, L, R>) {
     shift.station.site.lock(shift.rt).stop_reading();
     for _ in 0..LOOKS {
         if shift.station.site.lock(shift.rt).is_empty() {
@@ -72,51 +137,90 @@ fn end_life<S: StableStore, L: Begins, R: Wait + Eprint + Clock>(shift: &Shift<'
         thread::sleep(shift.rt, Duration::from_millis(50));
     }
     shift.station.site.lock(shift.rt).lose_all(shift.rt);
-    shift.station.wake(shift.rt, Wake::End);
 }
 
-/// Starts a node anew whose store failed: its next life. None if that is refused: the server ends then.
+/// Starts a node anew: its next life. None if that is refused: the server ends then, or the part of the journal does.
 fn next_life<S: StableStore, L: Begins, R: Wait + Eprint + Clock>(
     rt: &R,
     shared: &Shared<S, L>,
     station: &Station,
     life: Life,
 ) -> Option<Life> {
+    let house = &shared.house;
     let node = station.node;
     let number = node.number();
-    shared.log.must_tell(
-        rt,
-        format_args!("node {number}: its store failed; it starts anew"),
-    );
+    if station.anew.has_failed() {
+        house.log.must_tell(
+            rt,
+            format_args!("node {number}: its store failed; it starts anew"),
+        );
+    } else {
+        house.log.line(
+            rt,
+            format_args!("node {number}: it has few message_ids left; it starts anew"),
+        );
+    }
     let Some(mut seat) = shared.seats.take(rt, &shared.cluster) else {
         drop(life);
-        shared.end.set(rt, Ending::Threads);
+        house.end.set(rt, Ending::Threads);
         return None;
     };
     let started = shared.cluster.restart(rt, &mut seat, life);
     shared.seats.give_back(rt, seat);
     match started {
         Ok((slip, life)) => {
+            house.ring(rt, &slip);
             drop(slip);
-            let incarnation = life.incarnation().number();
-            shared.log.must_tell(
-                rt,
-                format_args!("node {number}: started anew, incarnation {incarnation}"),
-            );
-            *station.site.lock(rt) = Site::none(shared.alloc, now(rt));
-            station.has_begun.store(false, Ordering::SeqCst);
-            station.has_failed.store(false, Ordering::SeqCst);
+            begin_anew(rt, shared, station, &life);
             Some(life)
         }
         Err((refusal, life)) => {
-            drop(life);
-            let ending = if refusal == Refusal::Full {
-                Ending::Full
-            } else {
-                Ending::Lost(node)
-            };
-            shared.end.set(rt, ending);
+            refuse_anew(rt, shared, station, refusal, life);
             None
         }
     }
+}
+
+/// A node started anew in this life: its requests that waited are answered, since it knows nothing of them now.
+fn begin_anew<S: StableStore, L: Begins, R: Wait + Eprint + Clock>(
+    rt: &R,
+    shared: &Shared<S, L>,
+    station: &Station,
+    life: &Life,
+) {
+    let number = station.node.number();
+    let incarnation = life.incarnation();
+    shared.house.log.must_tell(
+        rt,
+        format_args!(
+            "node {number}: started anew, incarnation {}",
+            incarnation.number()
+        ),
+    );
+    if let Ok(id) = MsgId::make(station.node, incarnation, 1) {
+        let _ = station.site.lock(rt).refuse_waiting(rt, id);
+    }
+    station.serials.store(0, Ordering::SeqCst);
+    station.has_begun.store(false, Ordering::SeqCst);
+    station.is_anew.store(true, Ordering::SeqCst);
+    station.anew.is_done();
+}
+
+/// A node can't be started anew. If that is since the journal is full, it is tried again in the next part.
+fn refuse_anew<S: StableStore, L: Begins, R: Wait>(
+    rt: &R,
+    shared: &Shared<S, L>,
+    station: &Station,
+    refusal: Refusal,
+    life: Life,
+) {
+    let house = &shared.house;
+    if refusal != Refusal::Full {
+        house.end.set(rt, Ending::Lost(station.node));
+    } else if house.pace.goes_on() {
+        house.rest();
+    } else {
+        house.end.set(rt, Ending::Full);
+    }
+    keep(rt, station, life);
 }

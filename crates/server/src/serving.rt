@@ -1,33 +1,33 @@
 //! The server over its nodes.
 
-ghost use Rattle.std.specs.Prelude.{◌≡◌, length, IfOk, IfSome};
-ghost use Rattle.node_threads.specs.Closing.{IsClosed};
+ghost use Rattle.std.specs.Prelude.{◌≡◌, ℕ, length, IfOk, IfSome};
 ghost use Rattle.node_threads.specs.Numbers.{none_sent};
 ghost use Rattle.node_threads.specs.Actions.{AllBegin};
+ghost use Rattle.server.specs.Parts.{ClosesParts};
 
 use crate::ending::{End, Ending};
+use crate::house::{Counters, House};
 use crate::log::Log;
-use crate::seat_pool::SeatPool;
-use crate::shared::{Counters, Shared};
+use crate::pace::Pace;
+use crate::parts::serve_parts;
 use crate::site::Site;
-use crate::starting::start_nodes;
-use crate::station::Station;
+use crate::starting::start_listeners;
+use crate::station::{Anew, Station};
 use crate::ticking::now;
 use config::{Config, Own};
 use crossbeam_channel::unbounded;
 use mc_types::NodeNo;
-use node_threads::{Begins, Cluster, Journal, Life, Node, Seat};
+use node_threads::{Begins, Cluster, Journal, Life, Node};
 use stable_store::StableStore;
 use std::alloc::{AllocError, Global};
 use std::collections::VecDeque;
 use std::net::TcpListener;
 use std::rt::Clock;
-use std::sync::atomic::{AtomicBool, AtomicU64, Ordering};
+use std::sync::atomic::{AtomicBool, AtomicU64};
 use std::sync::ledger::Blank;
 use std::sync::{Arc, Mutex, Wait};
 use std::thread;
 use std::thread::Threads;
-use std::time::Duration;
 
 /// How the server is to be run.
 #[derive(Drop)]
@@ -56,16 +56,21 @@ pub struct Beginning<S: StableStore> {
     pub nodes: Vec<Node<S>>,
 }
 
-/// How a server ended: why, and the journal of its nodes, if it could be closed.
+/// How a server ended: why, how many parts its journal had and how many entries they had together, and the journal of its last part, if that could be closed.
 #[derive(Drop)]
 pub struct Served<S: StableStore> {
     pub ending: Ending,
+    pub parts: u64,
+    pub entries: u64,
     pub journal: Option<Journal<S>>,
 }
 
-/// Serves ESMEs over nodes in threads, until it is asked to end, as many sessions have ended as were to, the journal is full, or a node can't be started anew.
-/// Each node listens, reads and writes its sessions, ticks each second, hands in packets in ascending number, and delivers by as many workers a session as its
-/// window has places. An `Err` is want of memory before it begins.
+/// Serves ESMEs over nodes in threads, until it is asked to end, as many sessions have ended as were to, or a node can't be started anew. Each node listens,
+/// reads and writes its sessions, ticks each second, hands in packets in ascending number, and delivers by as many workers a session as its window has places.
+///
+/// Before the journal is full it is closed, and goes on with another part over the nodes as they are; sessions stay, and requests go on waiting. With
+/// `ends_full` of the configuration the server ends in its place. A node that has few message_ids left, or whose store failed, starts anew, and its sessions
+/// stay. An `Err` is want of memory before it begins.
 pub fn serve<
     S: StableStore + Send + Sync + Drop,
     L: Begins + Send + Sync,
@@ -82,9 +87,21 @@ pub fn serve<
     requires numbers { L.numbers ≡ none_sent }
     requires begin { AllBegin L.cluster L.kept beginning.nodes.items }
     requires count { length beginning.nodes.items ≡ L.cluster.nodes }
-    ensures closed { IfOk result (λ served. IfSome served.journal (λ journal. IsClosed S.stored L.cluster L.kept L.numbers journal)) }
+    ensures closed { IfOk result (λ served. IfSome served.journal (λ journal. (parts : ℕ) × ClosesParts S.stored L.cluster L.kept L.numbers parts journal)) }
 {
     let Beginning { blank, nodes } = beginning;
+    let cluster = Cluster::<S, L>::start(alloc, blank, nodes)?;
+    let house = Arc::new(alloc, house_of(rt, alloc, doors, settings)?)?;
+    Ok(serve_over(rt, &house, cluster))
+}
+
+/// The server with these doors and settings.
+fn house_of<R: Clock>(
+    rt: &R,
+    alloc: Global,
+    doors: Doors,
+    settings: Settings,
+) -> Result<House, AllocError> {
     let Doors { listeners, lives } = doors;
     let Settings {
         config,
@@ -92,39 +109,39 @@ pub fn serve<
         is_quiet,
         asked,
     } = settings;
-    let shared = Shared {
+    Ok(House {
         alloc,
-        cluster: Cluster::<S, L>::start(alloc, blank, nodes)?,
         config,
         own,
         stations: stations_of(rt, alloc, listeners, lives)?,
-        seats: SeatPool::none(alloc),
         log: Log::make(is_quiet),
         end: End::none(),
+        asked,
         counters: Counters::none(),
-    };
-    let ending = run(rt, &shared, &asked);
-    let Shared { cluster, seats, .. } = shared;
-    Ok(Served {
-        ending,
-        journal: closed(cluster, seats.into_seats()),
+        pace: Pace::of(own),
     })
 }
 
-/// The journal of a cluster whose threads have ended, with all its seats. None if it can't be closed.
-fn closed<S: StableStore + Drop, L: Begins>(
-    cluster: Cluster<S, L>,
-    seats: Vec<Seat<L>>,
-) -> Option<Journal<S>>
-    ensures { IfSome result (λ journal. IsClosed S.stored L.cluster L.kept L.numbers journal) }
+/// Serves over a cluster, with threads that listen, read and write until the server ends.
+fn serve_over<
+    S: StableStore + Send + Sync + Drop,
+    L: Begins + Send + Sync,
+    R: Threads + Wait + Eprint + Clock + Sync,
+>(rt: &R, house: &Arc<House>, cluster: Cluster<S, L>) -> Served<S>
+    ensures { IfSome result.journal (λ journal. (parts : ℕ) × ClosesParts S.stored L.cluster L.kept L.numbers parts journal) }
 {
-    match cluster.close(seats) {
-        Ok(journal) => Some(journal),
-        Err(out) => {
-            drop(out);
-            None
-        }
-    }
+    thread::scope(
+        thread::scope_env(),
+        rt,
+        move |outer| -> Served<S>
+            ensures { IfSome result.journal (λ journal. (parts : ℕ) × ClosesParts S.stored L.cluster L.kept L.numbers parts journal) }
+        {
+            start_listeners(rt, outer, house);
+            let served = serve_parts(rt, house, cluster);
+            house.end_sessions(rt);
+            served
+        },
+    )
 }
 
 /// The stations of the nodes that listen here and have these lives, that of node 1 first.
@@ -151,8 +168,10 @@ fn stations_of<R: Clock>(
             wakes,
             woken,
             next: AtomicU64::new(1),
-            has_failed: AtomicBool::new(false),
+            anew: Anew::none(),
             has_begun: AtomicBool::new(false),
+            is_anew: AtomicBool::new(false),
+            serials: AtomicU64::new(0),
             life: Mutex::new(lives.pop_front()),
         })?;
     }
@@ -162,46 +181,4 @@ fn stations_of<R: Clock>(
 /// The number of the node at a place.
 fn number_of(place: usize) -> u8 {
     place.saturating_add(1).min(u8::MAX as usize) as u8
-}
-
-/// Runs the nodes until the server ends; why it does.
-fn run<
-    S: StableStore + Send + Sync,
-    L: Begins + Send + Sync,
-    R: Threads + Wait + Eprint + Clock + Sync,
->(rt: &R, shared: &Shared<S, L>, asked: &AtomicBool) -> Ending {
-    thread::scope(thread::scope_env(), rt, move |scope| {
-        start_nodes(rt, scope, shared);
-        watch(rt, shared, asked);
-    });
-    shared.end.get(rt).unwrap_or(Ending::Asked)
-}
-
-/// How often it is looked whether the server is asked to end, in milliseconds.
-const LOOK: u64 = 100;
-
-/// After how many looks the operator is told counts: a minute.
-const LOOKS: u32 = 600;
-
-/// Waits for the end of the server, and tells counts each minute.
-fn watch<S: StableStore, L: Begins, R: Wait + Eprint + Clock>(
-    rt: &R,
-    shared: &Shared<S, L>,
-    asked: &AtomicBool,
-) {
-    let mut looks = 0u32;
-    for _ in rt.forever() {
-        if asked.load(Ordering::SeqCst) {
-            shared.end.set(rt, Ending::Asked);
-        }
-        if shared.is_over(rt) {
-            return;
-        }
-        thread::sleep(rt, Duration::from_millis(LOOK));
-        looks = looks.saturating_add(1);
-        if looks >= LOOKS {
-            looks = 0;
-            shared.tell_counts(rt);
-        }
-    }
 }

@@ -10,7 +10,6 @@ use mc_types::NodeNo;
 use node_threads::{Begins, Life, Seat};
 use stable_store::StableStore;
 use std::sync::Wait;
-use std::sync::atomic::Ordering;
 
 /// What the threads of a node share in one of its lives.
 #[derive(Drop)]
@@ -27,28 +26,46 @@ impl<S: StableStore, L: Begins, R: Wait + Eprint> Shift<'_, S, L, R> {
         self.station.node
     }
 
-    /// Whether the life is over: the node's store failed, or the server ends.
+    /// Whether the life is over, or rests: the node is to start anew, the part of the journal is closed, or the server ends.
     pub(crate) fn is_over(&self) -> bool {
-        self.station.has_failed.load(Ordering::SeqCst) || self.shared.is_over(self.rt)
+        let house = &self.shared.house;
+        self.station.anew.is_due() || house.pace.rests() || house.is_over(self.rt)
+    }
+
+    /// Whether no delivery is to be begun.
+    pub(crate) fn holds(&self) -> bool {
+        let house = &self.shared.house;
+        house.pace.holds() || self.is_over() || self.has_few_serials()
+    }
+
+    /// Whether the node has few serials left.
+    pub(crate) fn has_few_serials(&self) -> bool {
+        let first = self.shared.house.config.first_serial;
+        self.shared.house.pace.goes_on() && self.station.has_few_serials(first)
     }
 
     /// What follows from a refusal of the cluster.
     pub(crate) fn meet(&self, trouble: Trouble) {
         match trouble {
-            Trouble::Full => self.shared.end.set(self.rt, Ending::Full),
-            Trouble::Store => self.station.has_failed.store(true, Ordering::SeqCst),
+            Trouble::Full if self.shared.house.pace.goes_on() => self.shared.house.rest(),
+            Trouble::Full => self.shared.house.end.set(self.rt, Ending::Full),
+            Trouble::Store => self.station.anew.fail(),
             Trouble::Memory | Trouble::Nothing => {}
         }
     }
 
     /// Tells the operator of a session.
     pub(crate) fn tell(&self, number: u8, notice: Notice) {
+        self.shared
+            .house
+            .tell(self.rt, self.station.node, number, notice);
+    }
+
+    /// Tells the operator of the node.
+    pub(crate) fn tell_node(&self, what: &str) {
         let node = self.station.node.number();
-        self.shared.log.line(
-            self.rt,
-            format_args!("node {node} session {number}: {notice}"),
-        );
-        drop(notice);
+        let log = &self.shared.house.log;
+        log.line(self.rt, format_args!("node {node}: {what}"));
     }
 
     /// A seat for a thread. None if there is no memory, or none is left.
@@ -61,8 +78,11 @@ impl<S: StableStore, L: Begins, R: Wait + Eprint> Shift<'_, S, L, R> {
         self.shared.seats.give_back(self.rt, seat);
     }
 
-    /// Has the workers of a node deliver what may be granted there, as far as sessions have places. A refusal is told.
+    /// Has the workers of a node deliver what may be granted there, as far as sessions have places and no delivery is held back. A refusal is told.
     pub(crate) fn feed(&self, site: &mut Site) -> Result<(), Trouble> {
+        if self.holds() {
+            return Ok(());
+        }
         let cluster = &self.shared.cluster;
         let mut after = None;
         while let Some(id) = cluster.grantable_after(self.rt, self.node(), after)? {

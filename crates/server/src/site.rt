@@ -5,6 +5,7 @@ ghost use Rattle.std.specs.Prelude.{◌≡◌};
 use crate::berth::Berth;
 use crate::carriage::Carriage;
 use crate::connection::Connection;
+use crate::starting::Arrival;
 use connection_parts::{Job, Tally};
 use esme_service::{Sending, Service};
 use fate_chain::Chain;
@@ -15,7 +16,7 @@ use sessions::{Delivery, Outgoing, Pushed};
 use std::alloc::{AllocError, Global};
 use std::collections::BTreeMap;
 use std::sync::{Arc, Wait};
-use waiting_requests::Reply;
+use waiting_requests::{Answer, Reply};
 
 /// How many deliver_sm go out for an account one after another at most: more than all windows of a node have places.
 const MOST_PUSHED: usize = 1_000;
@@ -67,6 +68,20 @@ impl Site {
         if let Some(connection) = self.connections.remove(&number) {
             connection.finish(rt);
         }
+    }
+
+    /// The sessions that nobody serves yet in this life of the node; somebody is to, from now on. An `Err` is want of memory.
+    pub(crate) fn unattended(&self) -> Result<Vec<Arrival>, AllocError> {
+        let mut arrivals = Vec::new(self.alloc);
+        for (number, connection) in &self.connections {
+            if connection.begin_attending() {
+                arrivals.push(Arrival {
+                    connection: Arc::try_clone(connection)?,
+                    number: *number,
+                })?;
+            }
+        }
+        Ok(arrivals)
     }
 
     /// The accounts of which a session may receive. An `Err` is want of memory.
@@ -131,6 +146,7 @@ impl Site {
 
     fn reply_all<R: Wait>(&mut self, rt: &R, replies: Vec<Reply>) -> Result<(), AllocError> {
         for reply in replies {
+            self.tally.fates = self.tally.fates.saturating_add(final_states(&reply));
             if let Some(sending) = self.service.reply(reply) {
                 self.send(rt, &sending)?;
             }
@@ -165,6 +181,7 @@ impl Site {
                 return Ok(());
             };
             self.tally.receipts = self.tally.receipts.saturating_add(1);
+            self.tally.fates = self.tally.fates.saturating_add(1);
             self.send(rt, &sending)?;
         }
         Ok(())
@@ -191,6 +208,11 @@ impl Site {
     }
 
     // Deliveries.
+
+    /// Whether some delivery is under way.
+    pub(crate) fn carries_some(&self) -> bool {
+        !self.carried.is_empty()
+    }
 
     /// Whether a delivery of a message is under way.
     pub(crate) fn carries(&self, id: MsgId) -> bool {
@@ -231,7 +253,11 @@ impl Site {
 
     /// The worker's place of the delivery that was pushed, if it is one that is under way.
     fn berth_of(&self, delivery: Delivery) -> Option<&Berth> {
-        let carriage = self.carried.get(&key_in(delivery)?)?;
+        self.berth_at(*self.carried.get(&key_in(delivery)?)?)
+    }
+
+    /// The worker's place of a delivery.
+    fn berth_at(&self, carriage: Carriage) -> Option<&Berth> {
         let connection = self.connections.get(&carriage.number)?;
         connection.berth(carriage.place)
     }
@@ -266,6 +292,19 @@ impl Site {
         self.post_for_all(rt, &up)
     }
 
+    /// What was pushed in deliveries that are under way gets no answer any more: how many these are. An `Err` is want of memory.
+    pub(crate) fn give_up_all<R: Wait>(&self, rt: &R) -> u64 {
+        let mut given_up = 0u64;
+        for (_, carriage) in &self.carried {
+            if let Some(berth) = self.berth_at(*carriage)
+                && berth.give_up_any(rt)
+            {
+                given_up = given_up.saturating_add(1);
+            }
+        }
+        given_up
+    }
+
     /// What was pushed gets no answer any more.
     fn give_up<R: Wait>(&self, rt: &R, pushed: Pushed) {
         let sequence = pushed.sequence;
@@ -275,6 +314,27 @@ impl Site {
     }
 
     // All connections.
+
+    /// Who serves sessions and their workers are to rest, once they are through with what they do.
+    pub(crate) fn rest<R: Wait>(&self, rt: &R) {
+        for (_, connection) in &self.connections {
+            connection.rest(rt);
+        }
+    }
+
+    /// Another life of the node begins, in which nobody serves yet.
+    pub(crate) fn go_on(&self) {
+        for (_, connection) in &self.connections {
+            connection.go_on();
+        }
+    }
+
+    /// What waits on connections is the last that goes out there.
+    pub(crate) fn finish_all<R: Wait>(&self, rt: &R) {
+        for (_, connection) in &self.connections {
+            connection.finish(rt);
+        }
+    }
 
     /// Who reads on a connection reads its end; what waits there goes out.
     pub(crate) fn stop_reading(&self) {
@@ -310,6 +370,37 @@ impl Site {
         self.connections.len()
     }
 
+    /// The requests that wait get no answer of the node any more, since it starts anew: they are answered 0x08. An `Err` is want of memory.
+    pub(crate) fn refuse_waiting<R: Wait>(&mut self, rt: &R, id: MsgId) -> Result<(), AllocError> {
+        for ticket in self.tickets()? {
+            let reply = Reply {
+                ticket,
+                id,
+                answer: Answer::TooLate,
+            };
+            if let Some(sending) = self.service.reply(reply) {
+                self.send(rt, &sending)?;
+            }
+        }
+        Ok(())
+    }
+
+    /// The tickets of the requests that wait. An `Err` is want of memory.
+    fn tickets(&self) -> Result<Vec<u64>, AllocError> {
+        let mut tickets = Vec::new(self.alloc);
+        for (_, session) in self.service.sessions() {
+            for request in session.requests() {
+                tickets.push(request.ticket)?;
+            }
+        }
+        Ok(tickets)
+    }
+
+    /// Whether a request or a delivery waits.
+    pub(crate) fn is_busy(&self) -> bool {
+        self.carries_some() || self.waiting() > 0
+    }
+
     /// How many requests wait for the node's answer.
     pub(crate) fn waiting(&self) -> usize {
         let mut waiting = 0usize;
@@ -317,6 +408,14 @@ impl Site {
             waiting = waiting.saturating_add(session.requests().len());
         }
         waiting
+    }
+}
+
+/// How many final states a reply tells.
+fn final_states(reply: &Reply) -> u64 {
+    match &reply.answer {
+        Answer::Shown(chain) | Answer::Removed(chain) if chain.fate().is_some() => 1,
+        _ => 0,
     }
 }
 

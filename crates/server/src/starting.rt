@@ -1,10 +1,13 @@
-//! The threads of a node, as they are started.
+//! The threads of a server, as they are started.
 
+use crate::attending::attend;
 use crate::carrying::carry_on;
 use crate::connection::{Connection, WORKERS};
 use crate::ending::Ending;
+use crate::house::House;
+use crate::listening::listen_on;
 use crate::living::live_on;
-use crate::reading::read;
+use crate::reading::read_all;
 use crate::shared::Shared;
 use crate::shift::Shift;
 use crate::station::Station;
@@ -12,26 +15,68 @@ use crate::ticking::tick_on;
 use crate::working::work;
 use node_threads::Begins;
 use stable_store::StableStore;
-use std::alloc::AllocError;
+use std::alloc::{AllocError, Global};
 use std::rt::Clock;
 use std::sync::{Arc, Wait};
 use std::thread::{Scope, Threads};
 
-/// Starts the thread of each node. If one can't be started, the server ends.
-pub(crate) fn start_nodes<
-    's,
-    E,
-    S: StableStore + Send + Sync,
-    L: Begins + Send + Sync,
-    R: Threads + Wait + Eprint + Clock + Sync,
->(rt: &'s R, scope: &'s Scope<'s, E>, shared: &'s Shared<S, L>) {
-    for station in &shared.stations {
-        start_node(rt, scope, shared, station);
+// What follows goes on through all parts of the journal.
+
+/// Starts the threads in which the nodes listen. If one can't be started, the server ends.
+pub(crate) fn start_listeners<'o, O, R: Threads + Wait + Eprint + Clock + Sync>(
+    rt: &'o R,
+    outer: &'o Scope<'o, O>,
+    house: &'o House,
+) {
+    for station in &house.stations {
+        start_listener(rt, outer, house, station);
     }
 }
 
+/// Starts the thread in which a node listens. If none can be started, the server ends.
+fn start_listener<'o, O, R: Threads + Wait + Eprint + Clock + Sync>(
+    rt: &'o R,
+    outer: &'o Scope<'o, O>,
+    house: &'o House,
+    station: &'o Station,
+) {
+    match outer.spawn(move || listen_on(rt, outer, house, station)) {
+        Ok(_) => {}
+        Err(_) => house.end.set(rt, Ending::Threads),
+    }
+}
+
+/// Starts the thread that reads a connection. An `Err` if none can be started.
+pub(crate) fn start_reader<'o, O, R: Threads + Wait + Sync>(
+    rt: &'o R,
+    outer: &'o Scope<'o, O>,
+    alloc: Global,
+    connection: &Arc<Connection>,
+) -> Result<(), AllocError> {
+    let theirs = Arc::try_clone(connection)?;
+    match outer.spawn(move || read_all(rt, alloc, &theirs)) {
+        Ok(_) => Ok(()),
+        Err(_) => Err(AllocError),
+    }
+}
+
+/// Starts the thread that writes on a connection. An `Err` if none can be started.
+pub(crate) fn start_writer<'o, O, R: Threads + Wait + Sync>(
+    rt: &'o R,
+    outer: &'o Scope<'o, O>,
+    connection: &Arc<Connection>,
+) -> Result<(), AllocError> {
+    let theirs = Arc::try_clone(connection)?;
+    match outer.spawn(move || theirs.write_all(rt)) {
+        Ok(_) => Ok(()),
+        Err(_) => Err(AllocError),
+    }
+}
+
+// What follows goes on in one part of the journal, or in one life of a node.
+
 /// Starts the thread of a node. If none can be started, the server ends.
-fn start_node<
+pub(crate) fn start_node<
     's,
     E,
     S: StableStore + Send + Sync,
@@ -40,7 +85,7 @@ fn start_node<
 >(rt: &'s R, scope: &'s Scope<'s, E>, shared: &'s Shared<S, L>, station: &'s Station) {
     match scope.spawn(move || live_on(rt, shared, station)) {
         Ok(_) => {}
-        Err(_) => shared.end.set(rt, Ending::Threads),
+        Err(_) => shared.house.end.set(rt, Ending::Threads),
     }
 }
 
@@ -61,7 +106,7 @@ pub(crate) fn start_ticks<
         life,
     })) {
         Ok(_) => {}
-        Err(_) => shift.shared.end.set(shift.rt, Ending::Threads),
+        Err(_) => shift.shared.house.end.set(shift.rt, Ending::Threads),
     }
 }
 
@@ -82,7 +127,7 @@ pub(crate) fn start_packets<
         life,
     })) {
         Ok(_) => {}
-        Err(_) => shift.shared.end.set(shift.rt, Ending::Threads),
+        Err(_) => shift.shared.house.end.set(shift.rt, Ending::Threads),
     }
 }
 
@@ -93,18 +138,18 @@ pub(crate) struct Arrival {
     pub(crate) number: u8,
 }
 
-/// Starts the thread that reads a connection. An `Err` if none can be started.
-pub(crate) fn start_reader<
+/// Starts the thread that serves the session of a connection. If none can be started, the server ends.
+pub(crate) fn start_attendant<
     's,
     E,
     S: StableStore + Send + Sync,
     L: Begins + Send + Sync,
     R: Threads + Wait + Eprint + Clock + Sync,
->(shift: &Shift<'s, S, L, R>, scope: &'s Scope<'s, E>, arrival: Arrival) -> Result<(), AllocError> {
+>(shift: &Shift<'s, S, L, R>, scope: &'s Scope<'s, E>, arrival: Arrival) {
     let (rt, shared) = (shift.rt, shift.shared);
     let (station, life) = (shift.station, shift.life);
     match scope.spawn(move || {
-        read(
+        attend(
             &Shift {
                 rt,
                 shared,
@@ -115,28 +160,8 @@ pub(crate) fn start_reader<
             &arrival,
         )
     }) {
-        Ok(_) => Ok(()),
-        Err(_) => Err(AllocError),
-    }
-}
-
-/// Starts the thread that writes on a connection. An `Err` if none can be started.
-pub(crate) fn start_writer<
-    's,
-    E,
-    S: StableStore + Send + Sync,
-    L: Begins + Send + Sync,
-    R: Threads + Wait + Eprint + Clock + Sync,
->(
-    shift: &Shift<'s, S, L, R>,
-    scope: &'s Scope<'s, E>,
-    connection: &Arc<Connection>,
-) -> Result<(), AllocError> {
-    let theirs = Arc::try_clone(connection)?;
-    let rt = shift.rt;
-    match scope.spawn(move || theirs.write_all(rt)) {
-        Ok(_) => Ok(()),
-        Err(_) => Err(AllocError),
+        Ok(_) => {}
+        Err(_) => shift.shared.house.end.set(shift.rt, Ending::Threads),
     }
 }
 

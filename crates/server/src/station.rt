@@ -2,10 +2,10 @@
 
 use crate::site::Site;
 use crossbeam_channel::{Receiver, Sender};
-use mc_types::NodeNo;
+use mc_types::{LAST_SERIAL, NodeNo};
 use node_threads::Life;
 use std::net::TcpListener;
-use std::sync::atomic::{AtomicBool, AtomicU64};
+use std::sync::atomic::{AtomicBool, AtomicU64, Ordering};
 use std::sync::{Mutex, Wait};
 
 /// What wakes the thread that hands in a node's packets.
@@ -18,7 +18,7 @@ pub(crate) enum Wake {
 }
 
 /// A node of the server, as its threads share it: where it listens, what stands at it under a lock, how its packets are told of, the number of the next packet
-/// that it is handed, and whether its store failed.
+/// that it is handed, and whether it is to start anew.
 #[derive(Drop)]
 pub(crate) struct Station {
     pub(crate) node: NodeNo,
@@ -27,14 +27,79 @@ pub(crate) struct Station {
     pub(crate) wakes: Sender<Wake>,
     pub(crate) woken: Receiver<Wake>,
     pub(crate) next: AtomicU64,
-    pub(crate) has_failed: AtomicBool,
+    /// Why it is to start anew, if it is.
+    pub(crate) anew: Anew,
     /// Whether it has had a tick, so that its clock goes.
     pub(crate) has_begun: AtomicBool,
-    /// Its life, until its thread takes it.
+    /// Whether it started anew, and is not through with its first tick.
+    pub(crate) is_anew: AtomicBool,
+    /// How many serials its incarnation has given.
+    pub(crate) serials: AtomicU64,
+    /// Its life, unless its thread has it.
     pub(crate) life: Mutex<Option<Life>>,
 }
 
+/// Why a node is to start anew, if it is.
+#[derive(Drop)]
+pub(crate) struct Anew {
+    /// Its store failed.
+    has_failed: AtomicBool,
+    /// It has few serials left.
+    is_low: AtomicBool,
+}
+
+impl Anew {
+    /// It is not.
+    pub(crate) fn none() -> Anew {
+        Anew {
+            has_failed: AtomicBool::new(false),
+            is_low: AtomicBool::new(false),
+        }
+    }
+
+    /// Its store failed.
+    pub(crate) fn fail(&self) {
+        self.has_failed.store(true, Ordering::SeqCst);
+    }
+
+    /// It has few serials left, and nothing waits there.
+    pub(crate) fn run_low(&self) {
+        self.is_low.store(true, Ordering::SeqCst);
+    }
+
+    /// It is.
+    pub(crate) fn is_due(&self) -> bool {
+        self.has_failed.load(Ordering::SeqCst) || self.is_low.load(Ordering::SeqCst)
+    }
+
+    /// Whether its store failed.
+    pub(crate) fn has_failed(&self) -> bool {
+        self.has_failed.load(Ordering::SeqCst)
+    }
+
+    /// It has.
+    pub(crate) fn is_done(&self) {
+        self.has_failed.store(false, Ordering::SeqCst);
+        self.is_low.store(false, Ordering::SeqCst);
+    }
+}
+
+/// From how many serials on that are left a node starts anew, if it has twice as many at first.
+const FEW_SERIALS: u64 = 1_000;
+
 impl Station {
+    /// Another message of the node has a serial.
+    pub(crate) fn count_serial(&self) {
+        let _ = self.serials.fetch_add(1, Ordering::SeqCst);
+    }
+
+    /// Whether few serials are left of those from this one on.
+    pub(crate) fn has_few_serials(&self, first_serial: u32) -> bool {
+        let all = u64::from(LAST_SERIAL.saturating_sub(first_serial)).saturating_add(1);
+        let few = FEW_SERIALS.min(all / 2);
+        self.serials.load(Ordering::SeqCst).saturating_add(few) >= all
+    }
+
     /// Wakes the thread that hands in its packets. If there is no memory for it, the next one that wakes it tells of these packets, too.
     pub(crate) fn wake<R: Wait>(&self, rt: &R, wake: Wake) {
         let _ = self.wakes.send(rt, wake);

@@ -30,54 +30,117 @@ pub(crate) fn now<R: Clock>(rt: &R) -> Moment {
     }
 }
 
-/// How often it is looked, 50 milliseconds apart, whether what a tick began is through, before the next one: for ten seconds, and for a minute behind the first
-/// one of a life, which begins a round for each message that ever was.
-const LOOKS: u32 = 200;
+/// What the clock says, in milliseconds since 1970; 0 if it can't be read.
+pub(crate) fn milliseconds<R: Clock>(rt: &R) -> u64 {
+    let Ok(time) = SystemTime::now(rt) else {
+        return 0;
+    };
+    match time.duration_since(UNIX_EPOCH) {
+        Ok(since) => since
+            .as_secs()
+            .saturating_mul(1_000)
+            .saturating_add(u64::from(since.subsec_millis())),
+        Err(_) => 0,
+    }
+}
 
-const FIRST_LOOKS: u32 = 1200;
+/// How often it is looked, 50 milliseconds apart, whether packets have come that were sent, before the next tick: for two and a half seconds, and for fifteen
+/// behind the first tick of a life, which begins a round for each message that ever was.
+const LOOKS: u32 = 50;
 
-/// Hands in the first tick of a life, once those of the nodes below have theirs: before it the clock of a node stands at its least moment, so nobody connects
-/// before.
+const FIRST_LOOKS: u32 = 300;
+
+/// How many packets of a round come one behind the other (Paxos Made Simple, section 2.2): it asks for promises, has them, proposes, and is voted for.
+const PHASES: u32 = 4;
+
+/// How many looks are waited for those of the nodes below to begin: for a minute.
+const BELOW_LOOKS: u32 = 1200;
+
+/// Hands in the first tick of a life, unless the life goes on from another part of the journal: before it the clock of a node stands at its least moment, so
+/// nobody is served before. As the server begins it comes once those of the nodes below are through; a node that starts anew is served while it goes on.
 pub(crate) fn tick_first<S: StableStore, L: Begins, R: Wait + Eprint + Clock>(
     shift: &Shift<'_, S, L, R>,
 ) {
+    let station = shift.station;
+    if station.has_begun.load(Ordering::SeqCst) {
+        return;
+    }
     let Some(mut seat) = shift.seat() else {
-        shift.shared.end.set(shift.rt, Ending::Threads);
+        shift.shared.house.end.set(shift.rt, Ending::Threads);
         return;
     };
     wait_until(
         shift,
-        FIRST_LOOKS,
-        &|| shift.shared.have_begun(shift.node()),
+        BELOW_LOOKS,
+        &|| shift.shared.house.have_begun(shift.node()),
     );
     if let Err(trouble) = tick(shift, &mut seat) {
         shift.meet(trouble);
     }
-    wait_until(shift, FIRST_LOOKS, &|| shift.shared.is_settled());
-    shift.station.has_begun.store(true, Ordering::SeqCst);
     shift.give_back(seat);
+    if station.is_anew.load(Ordering::SeqCst) {
+        shift.tell_node("its first tick is under way; it serves");
+    } else {
+        wait_for_rounds(shift, FIRST_LOOKS);
+    }
+    station.has_begun.store(true, Ordering::SeqCst);
 }
 
-/// Hands in a tick each second until the life of the node is over; but each one ends all rounds, so the next one waits until what was sent has come, for ten
-/// seconds at most.
+/// Hands in a tick each second until the life of the node is over; but each one ends all rounds, so the next one waits until those are through that the last one
+/// began, for ten seconds at most.
 pub(crate) fn tick_on<S: StableStore, L: Begins, R: Wait + Eprint + Clock>(
     shift: &Shift<'_, S, L, R>,
 ) {
     let Some(mut seat) = shift.seat() else {
-        shift.shared.end.set(shift.rt, Ending::Threads);
+        shift.shared.house.end.set(shift.rt, Ending::Threads);
         return;
     };
+    if shift.station.is_anew.swap(false, Ordering::SeqCst) {
+        wait_for_rounds(shift, FIRST_LOOKS);
+        shift.tell_node("through with its first tick");
+    }
+    let mut low = 0u32;
     for _ in shift.rt.forever() {
+        sleep(shift);
         if shift.is_over() {
             break;
         }
-        sleep(shift);
-        wait_until(shift, LOOKS, &|| shift.shared.is_settled());
         if let Err(trouble) = tick(shift, &mut seat) {
             shift.meet(trouble);
         }
+        low = start_anew_if_low(shift, low);
+        wait_for_rounds(shift, LOOKS);
     }
     shift.give_back(seat);
+}
+
+/// After how many ticks a node with few message_ids left starts anew, though requests or deliveries wait there.
+const PATIENCE: u32 = 30;
+
+/// Has a node start anew that has few message_ids left, once nothing waits there, or after thirty ticks. How many ticks it has waited for that.
+fn start_anew_if_low<S: StableStore, L: Begins, R: Wait + Eprint>(
+    shift: &Shift<'_, S, L, R>,
+    ticks: u32,
+) -> u32 {
+    if !shift.has_few_serials() {
+        return 0;
+    }
+    let is_busy = shift.station.site.lock(shift.rt).is_busy();
+    if !is_busy || ticks >= PATIENCE {
+        shift.station.anew.run_low();
+    }
+    ticks.saturating_add(1)
+}
+
+/// Waits until the rounds are through that have begun, as far as the packets that are sent come: each of their phases for so many looks at most.
+fn wait_for_rounds<S: StableStore, L: Begins, R: Wait + Eprint + Clock>(
+    shift: &Shift<'_, S, L, R>,
+    looks: u32,
+) {
+    for _ in 0..PHASES {
+        let newest = shift.shared.house.newest();
+        wait_until(shift, looks, &|| shift.shared.house.have_come(newest));
+    }
 }
 
 /// Waits until this is so, or the life is over, or so many looks were made.
@@ -118,12 +181,12 @@ fn tick<S: StableStore, L: Begins, R: Wait + Eprint + Clock>(
     let node = shift.node();
     let tick = Action::Tick { node, moment, up };
     let slip = shift.shared.cluster.act(shift.rt, seat, tick)?;
-    shift.shared.ring(shift.rt, &slip);
+    shift.shared.house.ring(shift.rt, &slip);
     site.pass(moment);
     site.tell(shift.rt, slip.outputs())?;
     drop(slip);
     site.make_room(shift.rt)?;
-    let seconds = shift.shared.own.bind_seconds;
+    let seconds = shift.shared.house.own.bind_seconds;
     if seconds > 0 {
         site.lose_unbound(shift.rt, seconds);
     }

@@ -13,7 +13,7 @@ use node_workers::{Heard, Home, tried};
 use stable_store::StableStore;
 use std::sync::Wait;
 
-/// Makes the deliveries that are given to this place of a connection, until it is shut.
+/// Makes the deliveries that are given to this place of a connection, until it is shut, or workers rest.
 pub(crate) fn work<S: StableStore, L: Begins, R: Wait + Eprint>(
     shift: &Shift<'_, S, L, R>,
     connection: &Connection,
@@ -27,7 +27,7 @@ pub(crate) fn work<S: StableStore, L: Begins, R: Wait + Eprint>(
         return;
     };
     for _ in shift.rt.forever() {
-        let Some(job) = berth.next_job(shift.rt) else {
+        let Some(job) = connection.next_job(shift.rt, place) else {
             break;
         };
         if let Err(trouble) = deliver(shift, connection, berth, &mut seat, &job) {
@@ -46,7 +46,7 @@ fn deliver<'x, S: StableStore, L: Begins, R: Wait + Eprint>(
     job: &Job,
 ) -> Result<(), Trouble> {
     let mut gate = BerthGate {
-        alloc: shift.shared.alloc,
+        alloc: shift.shared.house.alloc,
         connection,
         berth,
         knows_optional: job.pushed.knows_optional,
@@ -98,6 +98,6 @@ fn ring_last<S: StableStore, L: Begins, R: Wait + Eprint>(
     seat: &Seat<L>,
 ) {
     if let Some(slip) = seat.slips().last() {
-        shift.shared.ring(shift.rt, slip);
+        shift.shared.house.ring(shift.rt, slip);
     }
 }

@@ -1,0 +1,145 @@
+//! Who serves a session, in a life of its node.
+
+use crate::connection::Connection;
+use crate::hearing::{Heeded, heed, heed_wrong_length};
+use crate::inbox::Next;
+use crate::notice::{Notice, Reason};
+use crate::shift::Shift;
+use crate::starting::{Arrival, start_workers};
+use node_threads::{Begins, Seat};
+use stable_store::StableStore;
+use std::rt::Clock;
+use std::sync::{Arc, Wait};
+use std::thread::{Scope, Threads};
+
+/// Serves the session of a connection, until it ends or the life of its node does. In the latter case it goes on in the next one.
+pub(crate) fn attend<
+    's,
+    E,
+    S: StableStore + Send + Sync,
+    L: Begins + Send + Sync,
+    R: Threads + Wait + Eprint + Clock + Sync,
+>(shift: &Shift<'s, S, L, R>, scope: &'s Scope<'s, E>, arrival: &Arrival) {
+    let connection = &arrival.connection;
+    let number = arrival.number;
+    let reason = match shift.seat() {
+        Some(mut seat) => {
+            let reason = attend_on(shift, scope, connection, number, &mut seat);
+            shift.give_back(seat);
+            reason
+        }
+        None => Some(Reason::NoMemory),
+    };
+    if let Some(reason) = reason {
+        end(shift, number, reason);
+    }
+}
+
+/// Serves one PDU after another; why the session ends. None if it goes on in the next life of the node.
+fn attend_on<
+    's,
+    E,
+    S: StableStore + Send + Sync,
+    L: Begins + Send + Sync,
+    R: Threads + Wait + Eprint + Clock + Sync,
+>(
+    shift: &Shift<'s, S, L, R>,
+    scope: &'s Scope<'s, E>,
+    connection: &Arc<Connection>,
+    number: u8,
+    seat: &mut Seat<L>,
+) -> Option<Reason> {
+    let mut is_receiver = may_receive(shift, number);
+    for _ in shift.rt.forever() {
+        if is_receiver && start_workers(shift, scope, connection).is_err() {
+            return Some(Reason::NoMemory);
+        }
+        connection.wait_to_serve(shift.rt);
+        is_receiver = match connection.next(shift.rt) {
+            Next::Rest => return None,
+            Next::End(reason) => return Some(ended(shift, connection, number, reason)),
+            Next::Frame(frame) => match serve_frame(shift, seat, number, frame) {
+                Ok(is_receiver) => is_receiver,
+                Err(reason) => return Some(reason),
+            },
+        };
+    }
+    None
+}
+
+/// Serves a PDU: whether it bound the session so that it may receive. An `Err` is why the session ends, if it does.
+fn serve_frame<S: StableStore, L: Begins, R: Wait + Eprint>(
+    shift: &Shift<'_, S, L, R>,
+    seat: &mut Seat<L>,
+    number: u8,
+    frame: Vec<u8>,
+) -> Result<bool, Reason> {
+    match heed(shift, seat, number, &frame) {
+        Ok(heeded) => {
+            let is_receiver = heeded.binds_receiver();
+            match told(shift, number, heeded) {
+                Some(reason) => Err(reason),
+                None => Ok(is_receiver),
+            }
+        }
+        Err(trouble) => {
+            shift.meet(trouble);
+            Err(Reason::NoMemory)
+        }
+    }
+}
+
+/// Whether the session of a number may receive.
+fn may_receive<S: StableStore, L: Begins, R: Wait + Eprint>(
+    shift: &Shift<'_, S, L, R>,
+    number: u8,
+) -> bool {
+    let site = shift.station.site.lock(shift.rt);
+    match site.service.sessions().get(&number) {
+        Some(session) => session.state().may_receive(),
+        None => false,
+    }
+}
+
+/// Tells the operator what came of a PDU; why the session ends, if it does.
+fn told<S: StableStore, L: Begins, R: Wait + Eprint>(
+    shift: &Shift<'_, S, L, R>,
+    number: u8,
+    heeded: Heeded,
+) -> Option<Reason> {
+    let Heeded { notice, is_gone } = heeded;
+    if let Some(notice) = notice {
+        shift.tell(number, notice);
+    }
+    is_gone.then_some(Reason::Unbound)
+}
+
+/// Why a session ends on which nothing more comes, for this reason: if its connection was lost, since a write failed or the server cut it, who read only saw
+/// that.
+fn ended<S: StableStore, L: Begins, R: Wait + Eprint>(
+    shift: &Shift<'_, S, L, R>,
+    connection: &Connection,
+    number: u8,
+    reason: Reason,
+) -> Reason {
+    match reason {
+        Reason::Closed | Reason::CutShort if connection.is_lost(shift.rt) => Reason::Failed,
+        Reason::Closed if shift.shared.house.is_over(shift.rt) => Reason::CentreEnds,
+        Reason::WrongLength => {
+            heed_wrong_length(shift, number);
+            Reason::WrongLength
+        }
+        other => other,
+    }
+}
+
+/// The session is over.
+fn end<S: StableStore, L: Begins, R: Wait + Eprint>(
+    shift: &Shift<'_, S, L, R>,
+    number: u8,
+    reason: Reason,
+) {
+    shift.station.site.lock(shift.rt).leave(shift.rt, number);
+    shift.tell(number, Notice::Ended(reason));
+    shift.shared.house.count_end(shift.rt);
+}

@@ -1,0 +1,264 @@
+//! What stays of a server through all parts of its journal.
+
+use crate::ending::{End, Ending};
+use crate::log::Log;
+use crate::notice::Notice;
+use crate::pace::Pace;
+use crate::station::{Station, Wake};
+use config::{Config, Own};
+use connection_parts::Tally;
+use mc_types::NodeNo;
+use node_threads::Slip;
+use std::alloc::Global;
+use std::rt::Clock;
+use std::sync::atomic::{AtomicBool, AtomicU64, Ordering};
+use std::sync::{Arc, Wait};
+use std::thread;
+use std::time::Duration;
+
+/// What stays of a server through all parts of its journal: what it is run by, and its nodes with their sessions.
+#[derive(Drop)]
+pub(crate) struct House {
+    pub(crate) alloc: Global,
+    pub(crate) config: Config,
+    pub(crate) own: Own,
+    pub(crate) stations: Vec<Station>,
+    pub(crate) log: Log,
+    pub(crate) end: End,
+    /// Whether it is asked to end.
+    pub(crate) asked: Arc<AtomicBool>,
+    pub(crate) counters: Counters,
+    pub(crate) pace: Pace,
+}
+
+/// How long what waits on sessions goes out once the server ended between two parts, in milliseconds.
+const LAST_PAUSE: u64 = 200;
+
+/// What is counted of all nodes.
+#[derive(Drop)]
+pub(crate) struct Counters {
+    /// How many connections there were.
+    connections: AtomicU64,
+    /// How many sessions have ended.
+    ended: AtomicU64,
+    /// The greatest number of a packet that nodes were told of.
+    newest: AtomicU64,
+    /// How often it was looked whether the server ends, since counts were told.
+    looks: AtomicU64,
+    /// How many parts of the journal were closed, the entries of the last one and of all, and the final states that were told before it.
+    parts: AtomicU64,
+    entries: AtomicU64,
+    all_entries: AtomicU64,
+    fates: AtomicU64,
+}
+
+impl Counters {
+    /// None yet.
+    pub(crate) fn none() -> Counters {
+        Counters {
+            connections: AtomicU64::new(0),
+            ended: AtomicU64::new(0),
+            newest: AtomicU64::new(0),
+            looks: AtomicU64::new(0),
+            parts: AtomicU64::new(0),
+            entries: AtomicU64::new(0),
+            all_entries: AtomicU64::new(0),
+            fates: AtomicU64::new(0),
+        }
+    }
+
+    /// The number of another connection, which no other has.
+    pub(crate) fn next_connection(&self) -> u64 {
+        self.connections.fetch_add(1, Ordering::SeqCst)
+    }
+
+    /// It was looked whether the server ends; whether that was so often since this was last so.
+    pub(crate) fn look(&self, most: u64) -> bool {
+        let looks = self.looks.fetch_add(1, Ordering::SeqCst).saturating_add(1);
+        if looks >= most {
+            self.looks.store(0, Ordering::SeqCst);
+        }
+        looks >= most
+    }
+
+    /// Another part of the journal was closed, with so many entries.
+    pub(crate) fn close_part(&self, entries: u64) {
+        let _ = self.parts.fetch_add(1, Ordering::SeqCst);
+        self.entries.store(entries, Ordering::SeqCst);
+        let _ = self.all_entries.fetch_add(entries, Ordering::SeqCst);
+    }
+
+    /// How many parts of the journal were closed.
+    pub(crate) fn parts(&self) -> u64 {
+        self.parts.load(Ordering::SeqCst)
+    }
+
+    /// How many entries they have together.
+    pub(crate) fn all_entries(&self) -> u64 {
+        self.all_entries.load(Ordering::SeqCst)
+    }
+
+    /// Another session has ended: how many have.
+    fn count_end(&self) -> u64 {
+        self.ended.fetch_add(1, Ordering::SeqCst).saturating_add(1)
+    }
+}
+
+impl House {
+    /// Whether it is asked to end.
+    pub(crate) fn is_asked(&self) -> bool {
+        self.asked.load(Ordering::SeqCst)
+    }
+
+    /// Why the server ends.
+    pub(crate) fn ending<R: Wait>(&self, rt: &R) -> Ending {
+        self.end.get(rt).unwrap_or(Ending::Asked)
+    }
+
+    /// Whether the server ends.
+    pub(crate) fn is_over<R: Wait>(&self, rt: &R) -> bool {
+        self.end.get(rt).is_some()
+    }
+
+    /// A step was taken: it counts in the part of the journal, and the packets that it sent are handed in to all nodes.
+    pub(crate) fn ring<R: Wait>(&self, rt: &R, slip: &Slip) {
+        self.pace.note(slip.number());
+        let sent = slip.outputs().packets.len() as u64;
+        if sent == 0 {
+            return;
+        }
+        let newest = slip.packets_before().saturating_add(sent);
+        let _ = self.counters.newest.fetch_max(newest, Ordering::SeqCst);
+        for station in &self.stations {
+            station.wake(rt, Wake::Sent(newest));
+        }
+    }
+
+    /// The greatest number of a packet that nodes were told of.
+    pub(crate) fn newest(&self) -> u64 {
+        self.counters.newest.load(Ordering::SeqCst)
+    }
+
+    /// Whether each packet up to this number has come to all nodes.
+    pub(crate) fn have_come(&self, newest: u64) -> bool {
+        self.stations
+            .iter()
+            .all(|station| station.next.load(Ordering::SeqCst) > newest)
+    }
+
+    /// Whether each node below this one has had a tick.
+    pub(crate) fn have_begun(&self, node: NodeNo) -> bool {
+        self.stations.iter().all(|station| {
+            station.node.number() >= node.number() || station.has_begun.load(Ordering::SeqCst)
+        })
+    }
+
+    /// Tells the operator of a session.
+    pub(crate) fn tell<R: Wait + Eprint>(&self, rt: &R, node: NodeNo, number: u8, notice: Notice) {
+        let node = node.number();
+        self.log
+            .line(rt, format_args!("node {node} session {number}: {notice}"));
+        drop(notice);
+    }
+
+    /// Another session has ended: after so many as the configuration says, the server ends.
+    pub(crate) fn count_end<R: Wait>(&self, rt: &R) {
+        let ended = self.counters.count_end();
+        if self.config.stop_after > 0 && ended >= self.config.stop_after {
+            self.end.set(rt, Ending::Asked);
+        }
+    }
+
+    /// How many final states its nodes told.
+    pub(crate) fn fates<R: Wait>(&self, rt: &R) -> u64 {
+        let mut fates = 0u64;
+        for station in &self.stations {
+            fates = fates.saturating_add(station.site.lock(rt).tally.fates);
+        }
+        fates
+    }
+
+    /// The number of the first packet that some node was not handed.
+    pub(crate) fn first_left(&self) -> u64 {
+        let mut first = u64::MAX;
+        for station in &self.stations {
+            first = first.min(station.next.load(Ordering::SeqCst));
+        }
+        first
+    }
+
+    /// The threads of its nodes rest, once they are through with what they do.
+    pub(crate) fn rest(&self) {
+        self.pace.rest();
+    }
+
+    /// If the part of the journal has come so far, deliveries are waited for, and then the threads of the nodes rest.
+    pub(crate) fn keep_pace<R: Wait>(&self, rt: &R) {
+        if self.pace.presses() || (self.pace.holds() && !self.carries(rt)) {
+            self.rest();
+        }
+    }
+
+    /// Whether a delivery is under way at some node.
+    fn carries<R: Wait>(&self, rt: &R) -> bool {
+        self.stations
+            .iter()
+            .any(|station| station.site.lock(rt).carries_some())
+    }
+
+    /// The sessions end that are left, if the server ended between two parts: what waits on them goes out for a moment, and then they are cut.
+    pub(crate) fn end_sessions<R: Wait + Clock>(&self, rt: &R) {
+        if self.stations.iter().all(|station| station.site.lock(rt).is_empty()) {
+            return;
+        }
+        for station in &self.stations {
+            station.site.lock(rt).finish_all(rt);
+        }
+        thread::sleep(rt, Duration::from_millis(LAST_PAUSE));
+        for station in &self.stations {
+            station.site.lock(rt).lose_all(rt);
+        }
+    }
+
+    /// Tells the operator of the part of the journal that was closed last, and that the next one goes on at this moment, in milliseconds since 1970.
+    pub(crate) fn tell_part<R: Wait + Eprint>(&self, rt: &R, now: u64) {
+        let pause = now.saturating_sub(self.pace.stands_since());
+        let cut = self.pace.go_on();
+        let told = self.fates(rt);
+        let fates = told.saturating_sub(self.counters.fates.swap(told, Ordering::SeqCst));
+        let part = self.counters.parts.load(Ordering::SeqCst);
+        let entries = self.counters.entries.load(Ordering::SeqCst);
+        self.log.line(
+            rt,
+            format_args!(
+                "part {part}: entries {entries}, final states told {fates}, deliveries cut short {cut}, closed in {pause} ms"
+            ),
+        );
+    }
+
+    /// Tells the operator what went on so far.
+    pub(crate) fn tell_counts<R: Wait + Eprint>(&self, rt: &R) {
+        let mut sum = Tally::zero();
+        let mut sessions = 0usize;
+        let mut waiting = 0usize;
+        for station in &self.stations {
+            let site = station.site.lock(rt);
+            sum = sum.plus(site.tally);
+            sessions = sessions.saturating_add(site.len());
+            waiting = waiting.saturating_add(site.waiting());
+        }
+        let Tally {
+            submits,
+            deliveries,
+            receipts,
+            refused,
+            ..
+        } = sum;
+        self.log.line(
+            rt,
+            format_args!(
+                "counts: sessions {sessions}, submits {submits}, deliveries {deliveries}, receipts {receipts}, refused {refused}, waiting {waiting}"
+            ),
+        );
+    }
+}

@@ -1,0 +1,184 @@
+//! A server in one part of its journal after another.
+
+ghost use Rattle.std.specs.Prelude.{◌≡◌, ℕ, IfSome, false};
+ghost use Rattle.journal_parts.specs.Closing.{IsClosed};
+ghost use Rattle.journal_parts.specs.GoingOn.{AreSound, GoesOn};
+ghost use Rattle.server.specs.Parts.{ClosesParts};
+
+use crate::ending::Ending;
+use crate::house::House;
+use crate::seat_pool::SeatPool;
+use crate::serving::Served;
+use crate::shared::Shared;
+use crate::starting::start_node;
+use crate::ticking::milliseconds;
+use node_threads::{Begins, Cluster, Journal, MOST_SEATS, Seat, closed_journals_go_on};
+use stable_store::StableStore;
+use std::marker::Brand;
+use std::rt::Clock;
+use std::sync::ledger::Blank;
+use std::sync::{Arc, Wait};
+use std::thread;
+use std::thread::Threads;
+use std::time::Duration;
+
+/// With what another part begins: a ledger of slips, and the journal of the last part.
+#[derive(Drop)]
+struct Next<S: StableStore> {
+    blank: Blank,
+    journal: Journal<S>,
+}
+
+/// Serves in one part of the journal after another, until the server ends: how it did, and the journal of the last part.
+pub(crate) fn serve_parts<
+    S: StableStore + Send + Sync + Drop,
+    L: Begins + Send + Sync,
+    R: Threads + Wait + Eprint + Clock + Sync,
+>(rt: &R, house: &Arc<House>, cluster: Cluster<S, L>) -> Served<S>
+    ensures { IfSome result.journal (λ journal. (parts : ℕ) × ClosesParts S.stored L.cluster L.kept L.numbers parts journal) }
+{
+    let mut last = part(rt, house, cluster);
+    for _ in rt.forever() {
+        let Some(journal) = last else {
+            break;
+        };
+        if is_last(rt, house, &journal) {
+            return served(rt, house, Some(journal));
+        }
+        closed_journals_go_on::<S>();
+        let next = Next {
+            blank: Blank::new(MOST_SEATS),
+            journal,
+        };
+        last = next_part::<S, Brand, R>(rt, house, next);
+    }
+    served(rt, house, None)
+}
+
+/// How the server ended, with this journal of its last part.
+fn served<S: StableStore, R: Wait>(
+    rt: &R,
+    house: &House,
+    journal: Option<Journal<S>>,
+) -> Served<S>
+    ensures { result.journal ≡ journal }
+{
+    Served {
+        ending: house.ending(rt),
+        parts: house.counters.parts(),
+        entries: house.counters.all_entries(),
+        journal,
+    }
+}
+
+/// Whether the part of this journal is the last: the server ends, or a node is astray, whose start anew was refused. The part is counted.
+fn is_last<S: StableStore, R: Wait>(rt: &R, house: &House, journal: &Journal<S>) -> bool
+    ensures { result ≡ false → AreSound journal.now.posts }
+{
+    house.counters.close_part(journal.len() as u64);
+    house.is_over(rt) || !journal.is_sound()
+}
+
+/// The journal of a part that goes on where another was closed. None if it can't be closed, or there is no memory for it.
+fn next_part<
+    S: StableStore + Send + Sync + Drop,
+    L: Begins + Send + Sync,
+    R: Threads + Wait + Eprint + Clock + Sync,
+>(rt: &R, house: &Arc<House>, next: Next<S>) -> Option<Journal<S>>
+    requires name { next.blank.name ≡ L.name }
+    requires parts { (next.blank.parts ≡ L.parts) × (next.blank.parts ≡ 1000000) }
+    requires goes { GoesOn S.stored L.cluster L.kept L.numbers next.journal }
+    ensures { IfSome result (λ journal. IsClosed S.stored L.cluster L.kept L.numbers journal) }
+{
+    let Next { blank, journal } = next;
+    let from = house.first_left();
+    match Cluster::<S, L>::go_on(house.alloc, blank, journal, from) {
+        Ok(cluster) => {
+            house.tell_part(rt, milliseconds(rt));
+            part(rt, house, cluster)
+        }
+        Err(journal) => {
+            drop(journal);
+            house.end.set(rt, Ending::Threads);
+            None
+        }
+    }
+}
+
+/// The journal of a part, behind all that its threads did. None if it can't be closed.
+fn part<
+    S: StableStore + Send + Sync + Drop,
+    L: Begins + Send + Sync,
+    R: Threads + Wait + Eprint + Clock + Sync,
+>(rt: &R, house: &Arc<House>, cluster: Cluster<S, L>) -> Option<Journal<S>>
+    ensures { IfSome result (λ journal. IsClosed S.stored L.cluster L.kept L.numbers journal) }
+{
+    let seats = SeatPool::none(house.alloc);
+    let Ok(theirs) = Arc::try_clone(house) else {
+        house.end.set(rt, Ending::Threads);
+        return closed(cluster, seats.into_seats());
+    };
+    let shared = Shared {
+        house: theirs,
+        cluster,
+        seats,
+    };
+    run(rt, &shared);
+    let Shared { cluster, seats, .. } = shared;
+    closed(cluster, seats.into_seats())
+}
+
+/// The journal of a cluster whose threads have ended, with all its seats. None if it can't be closed.
+fn closed<S: StableStore + Drop, L: Begins>(
+    cluster: Cluster<S, L>,
+    seats: Vec<Seat<L>>,
+) -> Option<Journal<S>>
+    ensures { IfSome result (λ journal. IsClosed S.stored L.cluster L.kept L.numbers journal) }
+{
+    match cluster.close(seats) {
+        Ok(journal) => Some(journal),
+        Err(out) => {
+            drop(out);
+            None
+        }
+    }
+}
+
+/// Runs the nodes until the part is over, or the server ends.
+fn run<
+    S: StableStore + Send + Sync,
+    L: Begins + Send + Sync,
+    R: Threads + Wait + Eprint + Clock + Sync,
+>(rt: &R, shared: &Shared<S, L>) {
+    thread::scope(thread::scope_env(), rt, move |scope| {
+        for station in &shared.house.stations {
+            start_node(rt, scope, shared, station);
+        }
+        watch(rt, shared);
+    });
+}
+
+/// How often it is looked whether the part is over, or the server ends, in milliseconds.
+const LOOK: u64 = 10;
+
+/// After how many looks the operator is told counts: a minute.
+const LOOKS: u64 = 6_000;
+
+/// Waits for the end of the part, or of the server, and tells counts each minute.
+fn watch<S: StableStore, L: Begins, R: Wait + Eprint + Clock>(rt: &R, shared: &Shared<S, L>) {
+    let house = &shared.house;
+    for _ in rt.forever() {
+        if house.is_asked() {
+            house.end.set(rt, Ending::Asked);
+        }
+        house.keep_pace(rt);
+        if house.pace.rests() || house.is_over(rt) {
+            break;
+        }
+        thread::sleep(rt, Duration::from_millis(LOOK));
+        if house.counters.look(LOOKS) {
+            house.tell_counts(rt);
+        }
+    }
+    house.pace.stand_since(milliseconds(rt));
+}
