@@ -3,9 +3,9 @@ use Rattle.std.specs.Prelude.{ℕ, zero, suc}
 use Rattle.mc_model.specs.cluster.Steps.{Cluster}
 use Rattle.node_model.specs.Kept.{Kept}
 use Rattle.stable_store.specs.Stored.{Stored}
-use Rattle.journal_parts.specs.Closing.{Closed, IsClosed}
-use Rattle.journal_parts.specs.GoingOn.{AreSound, kept_in, numbers_behind}
-use Rattle.journal_parts.specs.Numbers.{Numbers}
+use Rattle.node_threads.specs.Closing.{Closed, IsClosed}
+use Rattle.node_threads.specs.GoingOn.{AreSound, kept_in, numbers_behind}
+use Rattle.node_threads.specs.Numbers.{Numbers}
 
 -- A journal is closed behind so many parts that were closed before it: the first began with this, and each other one went on where the one before was closed,
 -- with no node astray.

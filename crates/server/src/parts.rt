@@ -1,8 +1,8 @@
 //! A server in one part of its journal after another.
 
 ghost use Rattle.std.specs.Prelude.{◌≡◌, ℕ, IfSome, false};
-ghost use Rattle.journal_parts.specs.Closing.{IsClosed};
-ghost use Rattle.journal_parts.specs.GoingOn.{AreSound, GoesOn};
+ghost use Rattle.node_threads.specs.Closing.{IsClosed};
+ghost use Rattle.node_threads.specs.GoingOn.{AreSound, GoesOn};
 ghost use Rattle.server.specs.Parts.{ClosesParts};
 
 use crate::ending::Ending;
