@@ -10,6 +10,7 @@ PROGRAM is the built program, as crates/centre/out/centre. It is started as `PRO
     kannel     Kannel's bearerbox and smsbox (clients/kannel.py)
     plain      what those two never do, over plain sockets (clients/plain.py)
     restart    messages are submitted, `serve` is ended and started anew, then killed and started anew: what was told stays true (clients/restart.py)
+    going_on   over stores of its own: ESMEs stay bound while parts of the journal are closed, and nodes start anew (clients/going_on.py)
 
 It installs nothing; `esme` needs Debian's libnet-smpp-perl, and `kannel` its kannel (apt-get install --no-install-recommends kannel libnet-smpp-perl). For
 each check it prints `ok NAME` or `not ok NAME: SEEN`, and at last `N checks, M wrong`; the exit status is 1 if any is wrong. It takes about three minutes, and
@@ -28,6 +29,7 @@ CLIENTS = pathlib.Path(__file__).resolve().parent / "clients"
 sys.path.insert(0, str(CLIENTS))
 
 from checks import Checks
+from going_on import GoingOn
 from plain_esme import Ended
 from ports import free_ports
 from restart import Halves
@@ -36,7 +38,7 @@ from serving import ENDED, LINES, LISTENS, Serving
 SECONDS = 360
 # Steps of the journal, after which `serve` ends.
 MOST_ENTRIES = 200_000
-PARTS = ("esme", "kannel", "plain", "restart")
+PARTS = ("esme", "kannel", "plain", "restart", "going_on")
 # What each part needs that is not Python's own: a command that succeeds if it is there, and the Debian package.
 NEEDED = {
     "esme": (["perl", "-MNet::SMPP", "-e", "1"], "libnet-smpp-perl"),
@@ -60,10 +62,12 @@ def out_of_time(*_):
     raise OutOfTime(f"{SECONDS} seconds are over")
 
 
-def write_config(folder):
-    """Writes the configuration, and gives the ports of its nodes."""
+def write_config(folder, changes=()):
+    """Writes the configuration with these changes, and gives the ports of its nodes."""
     ports = free_ports(3)
     text = (CLIENTS / "centre.toml").read_text()
+    for old, new in changes:
+        text = text.replace(old, new)
     for word, value in {"FOLDER": folder, **{f"NODE{node}": port for node, port in enumerate(ports, 1)}}.items():
         text = text.replace(f"@{word}@", str(value))
     (folder / "centre.toml").write_text(text)
@@ -166,6 +170,23 @@ class Run:
                 self.client(part, sys.executable, str(CLIENTS / "plain.py"), first, second, third)
             case "restart":
                 self.restart()
+            case "going_on":
+                self.going_on()
+
+    def going_on(self):
+        """Over stores of its own, with parts of 2,000 entries and a hundred message_ids in an incarnation."""
+        folder = self.folder / "going_on"
+        folder.mkdir()
+        ports = write_config(folder, [("first_serial = 101", "first_serial = 99900"), ("sessions = 20", "sessions = 20\npart_entries = 2000")])
+        serving = Serving(self.serving.command[0], folder / "centre.toml", folder)
+        try:
+            self.checks.check("going_on.starts", serving.start(), serving.said)
+            GoingOn(lambda name, *seen: self.checks.check(f"going_on.{name}", *seen), ports, serving).run()
+            self.checks.check("going_on.ends_in_order", serving.end() == 0, serving.said)
+        finally:
+            serving.kill()
+        strange = [line for line in serving.lines if not any(pattern.fullmatch(line) for pattern in LINES)]
+        self.checks.check("going_on.says_nothing_else", not strange, strange[:3])
 
     def restart(self):
         halves = Halves(lambda name, *seen: self.checks.check(f"restart.{name}", *seen), self.ports)

@@ -176,7 +176,7 @@ module _ {S : Type 0} (stored : S → Stored) (cluster : Cluster) (kept : ℕ �
       ∙ sym (kept_there place post there)
       ∙ ap (kept_in other closed.posts) number
 
-  ends_there : AreSound closed.posts → (node : ℕ) → IsInRange cluster node → is.ends node ≡ kept_in other closed.posts node
+  pub ends_there : AreSound closed.posts → (node : ℕ) → IsInRange cluster node → is.ends node ≡ kept_in other closed.posts node
   ends_there sound node within =
       let least = within.0 in
       let most = within.1 in

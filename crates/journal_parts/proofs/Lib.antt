@@ -7,4 +7,5 @@ pub mod Members
 pub mod Reopening
 pub mod Closing
 pub mod GoingOn
+pub mod Histories
 pub mod Marking

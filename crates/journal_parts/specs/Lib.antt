@@ -9,3 +9,4 @@ pub mod Registers
 pub mod Members
 pub mod Closing
 pub mod GoingOn
+pub mod Histories

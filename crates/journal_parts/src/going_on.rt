@@ -2,6 +2,7 @@
 
 ghost use Rattle.std.specs.Prelude.{◌≡◌, ◌↔◌, ◌++◌, IfOk, IsTrue, OnOk, length, map};
 ghost use Rattle.journal_parts.specs.GoingOn.{AreSound, BothAreOne, ClosedOnesGoOn, numbers_behind};
+ghost use Rattle.journal_parts.specs.Histories.{AllPartsAreOne};
 ghost use Rattle.journal_parts.specs.Members.{posted};
 ghost use Rattle.journal_parts.specs.Numbers.{all_from, all_sent_by, sent_by};
 
@@ -50,6 +51,11 @@ impl<S: StableStore> Journal<S> {
 pub fn closed_journals_go_on<S: StableStore>()
     ensures go { ClosedOnesGoOn S.stored }
     ensures one { BothAreOne S.stored }
+{}
+
+/// What a proof takes of parts that were closed one behind the other: all of them are one part. The call does nothing.
+pub fn all_parts_are_one<S: StableStore>()
+    ensures { AllPartsAreOne S.stored }
 {}
 
 /// Whether none of them is astray.

@@ -27,7 +27,7 @@ pub use carried::Carried;
 pub use copies::EntryCopies;
 pub use done::Done;
 pub use entry::{Entry, Unfinished};
-pub use going_on::closed_journals_go_on;
+pub use going_on::{all_parts_are_one, closed_journals_go_on};
 pub use journal::Journal;
 pub use member::Member;
 pub use post::Post;

@@ -1,6 +1,7 @@
 pub use Rattle.journal_parts.specs.declared.begins.Begins
 pub use Rattle.journal_parts.specs.Closing
 pub use Rattle.journal_parts.specs.GoingOn
+pub use Rattle.journal_parts.specs.Histories
 pub use Rattle.journal_parts.specs.Granting
 pub use Rattle.journal_parts.specs.Numbers
 pub use Rattle.journal_parts.specs.Slips

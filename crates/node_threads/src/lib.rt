@@ -21,7 +21,7 @@ pub use cluster::Cluster;
 pub use defaults::Defaults;
 pub use journal_parts::{
     Begins, Done, Entry, Journal, MOST_SEATS, Packet, Refusal, Seat, Slip, Unfinished,
-    closed_journals_go_on,
+    all_parts_are_one, closed_journals_go_on,
 };
 pub use node_core::{Life, Node, Outputs, Permit};
 pub use opening::{open_nodes, opened_nodes_begin};

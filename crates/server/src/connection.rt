@@ -118,10 +118,9 @@ impl Connection {
     pub(crate) fn wait_to_serve<R: Wait>(&self, rt: &R) {
         let outbox = self.outbox.lock(rt);
         drop(
-            self.changed
-                .wait_while(rt, outbox, |outbox| {
-                    !outbox.has_room() && !self.is_resting()
-                }),
+            self.changed.wait_while(rt, outbox, |outbox| {
+                !outbox.has_room() && !self.is_resting()
+            }),
         );
     }
 
@@ -162,8 +161,9 @@ impl Connection {
         self.shut_berths(rt);
     }
 
-    /// The connection is lost: what waits to be written is dropped, and who reads reads its end.
+    /// The connection is lost: what waits to be written is dropped, and nothing more comes.
     pub(crate) fn lose<R: Wait>(&self, rt: &R) {
+        self.end_input(rt, Reason::Closed);
         self.outbox.lock(rt).cut();
         self.changed.notify_all();
         self.shut_berths(rt);

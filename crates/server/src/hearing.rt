@@ -46,7 +46,9 @@ pub(crate) fn heed<S: StableStore, L: Begins, R: Wait + Eprint>(
 ) -> Result<Heeded, Trouble> {
     let mut guard = shift.station.site.lock(shift.rt);
     let site = &mut *guard;
-    let heard = site.service.hear(&shift.shared.house.config, number, frame)?;
+    let heard = site
+        .service
+        .hear(&shift.shared.house.config, number, frame)?;
     let heeded = heed_heard(shift, site, seat, number, heard)?;
     site.post_on(shift.rt, number)?;
     Ok(heeded)
@@ -61,7 +63,12 @@ pub(crate) fn heed_wrong_length<S: StableStore, L: Begins, R: Wait + Eprint>(
     let site = &mut *guard;
     if let Heard::Gone(outgoing, abandoned) = site.service.hear_wrong_length(number) {
         drop(abandoned);
-        let _ = site.respond(shift.rt, &shift.shared.house.config.system_id, number, outgoing);
+        let _ = site.respond(
+            shift.rt,
+            &shift.shared.house.config.system_id,
+            number,
+            outgoing,
+        );
     }
 }
 

@@ -206,9 +206,15 @@ impl House {
             .any(|station| station.site.lock(rt).carries_some())
     }
 
-    /// The sessions end that are left, if the server ended between two parts: what waits on them goes out for a moment, and then they are cut.
-    pub(crate) fn end_sessions<R: Wait + Clock>(&self, rt: &R) {
-        if self.stations.iter().all(|station| station.site.lock(rt).is_empty()) {
+    /// The server ends, if it did not yet, and so do the sessions that are left if it ended between two parts: what waits on them goes out for a moment, and
+    /// then they are cut.
+    pub(crate) fn end_all<R: Wait + Clock>(&self, rt: &R) {
+        self.end.set(rt, Ending::Asked);
+        if self
+            .stations
+            .iter()
+            .all(|station| station.site.lock(rt).is_empty())
+        {
             return;
         }
         for station in &self.stations {

@@ -36,9 +36,11 @@ impl Inbox {
         let _ = self.frames.put(frame);
     }
 
-    /// Nothing more comes, for this reason.
+    /// Nothing more comes, for this reason, unless that is so for another.
     pub(crate) fn end(&mut self, reason: Reason) {
-        self.end = Some(reason);
+        if self.end.is_none() {
+            self.end = Some(reason);
+        }
         self.frames.shut();
     }
 

@@ -54,8 +54,8 @@ impl Pace {
     }
 
     fn is_behind(&self, more: u64) -> bool {
-        self.many
-            .is_some_and(|many| self.entries.load(Ordering::SeqCst) >= many.saturating_add(more))
+        self.many.is_some_and(|many| self.entries.load(Ordering::SeqCst)
+            >= many.saturating_add(more))
     }
 
     /// Whether the journal goes on with another part once this one is full.

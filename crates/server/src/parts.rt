@@ -56,11 +56,7 @@ pub(crate) fn serve_parts<
 }
 
 /// How the server ended, with this journal of its last part.
-fn served<S: StableStore, R: Wait>(
-    rt: &R,
-    house: &House,
-    journal: Option<Journal<S>>,
-) -> Served<S>
+fn served<S: StableStore, R: Wait>(rt: &R, house: &House, journal: Option<Journal<S>>) -> Served<S>
     ensures { result.journal ≡ journal }
 {
     Served {

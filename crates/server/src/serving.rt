@@ -138,7 +138,7 @@ fn serve_over<
         {
             start_listeners(rt, outer, house);
             let served = serve_parts(rt, house, cluster);
-            house.end_sessions(rt);
+            house.end_all(rt);
             served
         },
     )

@@ -84,8 +84,8 @@ impl Anew {
     }
 }
 
-/// From how many serials on that are left a node starts anew, if it has twice as many at first.
-const FEW_SERIALS: u64 = 1_000;
+/// From how many serials on that are left a node is to start anew, if it has twice as many at first.
+const FEW_SERIALS: u64 = 10_000;
 
 impl Station {
     /// Another message of the node has a serial.

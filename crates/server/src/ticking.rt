@@ -14,10 +14,10 @@ use std::thread;
 use std::time::{Duration, SystemTime, UNIX_EPOCH};
 
 /// In how many pieces the second between two ticks is slept, so that the end of a life is seen soon.
-const PIECES: u32 = 20;
+const PIECES: u32 = 50;
 
 /// How long a piece is, in milliseconds.
-const PIECE: u64 = 50;
+const PIECE: u64 = 20;
 
 /// What the clock says; the least moment if it can't be read.
 pub(crate) fn now<R: Clock>(rt: &R) -> Moment {
@@ -44,17 +44,17 @@ pub(crate) fn milliseconds<R: Clock>(rt: &R) -> u64 {
     }
 }
 
-/// How often it is looked, 50 milliseconds apart, whether packets have come that were sent, before the next tick: for two and a half seconds, and for fifteen
+/// How often it is looked, 20 milliseconds apart, whether packets have come that were sent, before the next tick: for two and a half seconds, and for fifteen
 /// behind the first tick of a life, which begins a round for each message that ever was.
-const LOOKS: u32 = 50;
+const LOOKS: u32 = 125;
 
-const FIRST_LOOKS: u32 = 300;
+const FIRST_LOOKS: u32 = 750;
 
 /// How many packets of a round come one behind the other (Paxos Made Simple, section 2.2): it asks for promises, has them, proposes, and is voted for.
 const PHASES: u32 = 4;
 
-/// How many looks are waited for those of the nodes below to begin: for a minute.
-const BELOW_LOOKS: u32 = 1200;
+/// How often it is looked whether those of the nodes below have begun: for a minute.
+const BELOW_LOOKS: u32 = 3000;
 
 /// Hands in the first tick of a life, unless the life goes on from another part of the journal: before it the clock of a node stands at its least moment, so
 /// nobody is served before. As the server begins it comes once those of the nodes below are through; a node that starts anew is served while it goes on.
