@@ -36,6 +36,7 @@ ADDRESSES = {
 NUMBERS = {
     "user_message_reference": 2, "sar_msg_ref_num": 2, "sar_total_segments": 1, "sar_segment_seqnum": 1, "sc_interface_version": 1, "message_state": 1,
 }
+VERSIONS = {"interface_version", "sc_interface_version"}
 HEAD = {"length", "status", "sequence", "body"}
 NUMBER, DIGITS = re.compile("0x[0-9a-fA-F]+|[0-9]+"), re.compile("(?:[0-9a-fA-F]{2})*")
 ESCAPE, ESCAPED = re.compile(rb"\\(?:x([0-9a-fA-F]{2})|(\\)|)"), re.compile(rb"[^ -~]|\\")
@@ -150,15 +151,19 @@ def too_long(octets):
 
 # ---- from octets to words
 
+def number_text(name, octets):
+    value = int.from_bytes(octets, "big")
+    return f"0x{value:02x}" if name in VERSIONS else str(value)
+
+
 def parameter_words(octets):
     while octets:
         tag, length, behind = int.from_bytes(octets[:2], "big"), int.from_bytes(octets[2:4], "big"), octets[4:]
         if len(octets) < 4 or len(behind) < length:
             raise Cut(PARAMETERS)
         name, value, octets = TAGS.get(tag, f"0x{tag:04x}"), behind[:length], behind[length:]
-        is_number = NUMBERS.get(name) == length
         as_octets = "".join(f"\\x{octet:02x}" for octet in value) if name in NUMBERS else text_of(value)
-        yield f"{name}={int.from_bytes(value, 'big') if is_number else as_octets}"
+        yield f"{name}={number_text(name, value) if NUMBERS.get(name) == length else as_octets}"
 
 
 def field_words(command, body, is_whole):
@@ -167,7 +172,7 @@ def field_words(command, body, is_whole):
     if behind:
         raise Cut("octets behind the body")
     parameters = found.pop(PARAMETERS, b"")
-    given = {name: text_of(octets) if name in LIMITS or name == "short_message" else str(octets[0]) for name, octets in found.items()}
+    given = {name: text_of(octets) if name in LIMITS or name == "short_message" else number_text(name, octets) for name, octets in found.items()}
     for name, value in given.items():
         others = {other: value for other, value in given.items() if other != name}
         if is_whole or field(name, others) != field(name, given):

@@ -20,7 +20,7 @@ RECEIPT = "id:1000100001 sub:001 dlvrd:001 submit date:2401310000 done date:2401
 # The fewest words that write a PDU, and its digits.
 VECTORS = [
     ("bind_transceiver sequence=1 system_id=sme1 password=pw1", "0000001e000000090000000000000001 736d653100 70773100 00 34 00 00 00"),
-    ("bind_transceiver_resp status=ESME_ROK sequence=1 system_id=CENTRE sc_interface_version=52",
+    ("bind_transceiver_resp status=ESME_ROK sequence=1 system_id=CENTRE sc_interface_version=0x34",
      "0000001c800000090000000000000001 43454e54524500 0210000134"),
     ("submit_sm sequence=2 source=144 destination=155 registered_delivery=1 text=Hi",
      "00000029000000040000000000000002 00 010131343400 010131353500 000000 0000 0100000002 4869"),
