@@ -22,7 +22,7 @@ import shlex
 import sys
 
 from chart_pdus import BODIES, LIMITS, LONGEST, LONGEST_TEXT, MOST_PARAMETERS, NACK, NAMES, PARAMETERS, RESPONSE, SHORTEST, STATUSES, TAGS
-from chart_pdus import Cut, command_name, cut, pdu_of, split
+from chart_pdus import Cut, command_name, pdu_of, split
 
 COMMANDS = {name: code for code, name in NAMES.items()} | {name + "_resp": code | RESPONSE for code, name in NAMES.items()} | {"generic_nack": NACK}
 STATUS_CODES, TAG_CODES = ({name: code for code, name in table.items()} for table in (STATUSES, TAGS))
@@ -205,6 +205,17 @@ def told(octets):
     return [*head, f"body={pdu.body.hex()}"]
 
 
+def frames(octets):
+    """Each PDU by itself, if octets are several; else all of them."""
+    lengths, at = [], 0
+    while at < len(octets):
+        lengths.append(max(SHORTEST, int.from_bytes(octets[at:at + 4], "big")))
+        at += lengths[-1]
+    if at != len(octets):
+        return [octets]
+    return [octets[sum(lengths[:place]):][:length] for place, length in enumerate(lengths)]
+
+
 # ---- lines
 
 def quoted(words):
@@ -218,8 +229,9 @@ def line_written(found):
 
 def line_read(found):
     """A line in words, if its octets are one whole PDU."""
-    pdus, rest = cut(bytes.fromhex(found[2])) if DIGITS.fullmatch(found[2]) else ([], b"")
-    return f"{found[1]} {quoted(told(bytes.fromhex(found[2])))}" if len(pdus) == 1 and pdus[0].command is not None and not rest else found[0]
+    octets = bytes.fromhex(found[2]) if DIGITS.fullmatch(found[2]) else b""
+    is_whole = len(octets) >= SHORTEST and int.from_bytes(octets[:4], "big") == len(octets)
+    return f"{found[1]} {quoted(told(octets))}" if is_whole else found[0]
 
 
 def filtered(lines, change):
@@ -237,8 +249,10 @@ def main():
             sys.exit(__doc__)
         case ["--read" | "--write" as way]:
             filtered(sys.stdin, line_read if way == "--read" else line_written)
-        case [digits] if DIGITS.fullmatch(digits):
-            print(quoted(told(bytes.fromhex(digits))))
+        case [digits] if re.fullmatch("[0-9a-fA-F]+", digits):
+            if len(digits) % 2:
+                raise Wrong(f"{len(digits)} digits are an odd number")
+            print(*(quoted(told(octets)) for octets in frames(bytes.fromhex(digits))), sep="\n")
         case words:
             octets = written(words)
             print(*too_long(octets), sep="\n", end="\n" if too_long(octets) else "", file=sys.stderr)

@@ -22,7 +22,7 @@ TOP = pathlib.Path(__file__).resolve().parent.parent
 CRATES = TOP / "crates"
 BLOCK = re.compile(r"```rust\n(.*?)```", re.DOTALL)
 FILE = re.compile(r"`([^`]+\.rt)`")
-LINE, PRINTS = re.compile(r"`caller: ([\w\s]+)`"), re.compile(r"\s*It prints `([^`]*)`")
+LINE, PRINTS = re.compile(r"`caller:\s+([\w\s]+)`"), re.compile(r"\s*It prints `([^`]*)`")
 SOURCES = ("src", "specs", "proofs")
 
 

@@ -165,6 +165,15 @@ class Lines(unittest.TestCase):
         self.assertEqual(self.filtered("--write", self.filtered("--read", script)[0]), (script, "", 0))
         self.assertEqual(self.filtered("--read", "pdu 1 1 0000\ngone 1 1\n"), ("pdu 1 1 0000\ngone 1 1\n", "", 0))
 
+    def test_digits_of_several_pdus(self):
+        link, refused = "00000010000000150000000000000001", "00000010800000000000000300000007"
+        for digits, words in [
+            (link + refused, "enquire_link sequence=1\ngeneric_nack status=ESME_RINVCMDID sequence=7\n"),
+            (link.replace("10", "0f", 1), "enquire_link sequence=1 length=15\n"), (link + "00", "enquire_link sequence=1 length=16 body=00\n"),
+        ]:
+            ran = subprocess.run([sys.executable, ROOT / "tools/pdu.py", digits], capture_output=True, text=True)
+            self.assertEqual(ran.stdout, words)
+
     def test_faults_name_their_line(self):
         self.assertEqual(self.filtered("--write", "nodes 1\npdu 1 1 query_sm text=Hi\n")[1:], (
             "line 2: query_sm has no short_message; it has message_id, source_addr_ton, source_addr_npi, source_addr", 1))
