@@ -5,10 +5,10 @@
     python3 tools/readme_examples.py --try [CRATE ..]     # builds and runs the whole programs of these crates, or of all, unproved: half a minute each
     python3 tools/readme_examples.py --prove [CRATE ..]   # the same, proved: what is not proved below them is proved first
 
-A README of a crate with code has a section 'An example'. A block there that is a part of a file comes after a sentence that names the file under `crates`; each
+A README of a crate with code has a section 'An example'. A block there that is a part of a file comes after a sentence that names the file under `crates`. Each
 line of the block has to stand in the file that was named last, in this order; so it is code that the gate proves. A block with a `fn main` is a program: the
-sentence before it has its line for `crates.txt`, as `caller: pdu_codec`, and the one behind it says what it prints. To try it, the crates are copied to a folder
-of their own, with what is built of their libraries, where the program is the crate `caller`. This is beside the gate.
+sentence before it has its line for `crates.txt`, as `caller: pdu_codec`, and the one behind it says what it prints. To try it, the crates are copied to a
+folder of their own, with what is built of their libraries; there the program is the crate `caller`. This is beside the gate.
 """
 import pathlib
 import re
