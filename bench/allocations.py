@@ -6,7 +6,7 @@
 Of each kind it runs a script that binds 40 sessions and then has ten such lines for each, as many as wait there, and one that only binds
 them, and divides the difference by 400, so that what start and binds take does not count; for an enquire_link also with all lines on the
 one session that there is. A library that is written and built here with gcc counts the calls of malloc and its kin; the dynamic linker puts it
-in front of the C library's. The goals are 8 for a submit_sm and 2 for an enquire_link. With no argument it builds the program from the
+in front of the C library's. With no argument it builds the program from the
 crates of HEAD in a folder of its own, which proves them first and takes many minutes.
 """
 import os

@@ -4,7 +4,7 @@
 An ESME submits ten messages at node 1, with receipts; behind their settle comes a tick, by which the attempts are agreed on; they are granted, answered
 and reported, and the receipts answered; then the next ten. So a message takes three rounds, of a Prepare, a Promise of each node, a Propose and a Voted of
 each, which come to all nodes. Printed are the processor time of a message, less that of a script without messages, how many times that of a tenth of the
-messages it is (the goal is at most 1.3), the time of each packet that comes to a node, what a settle with nothing to deliver costs at the end, and the
+messages it is, the time of each packet that comes to a node, what a settle with nothing to deliver costs at the end, and the
 peak memory of each packet that was sent, which has what the nodes keep of it. The time is the best of three runs, or that of one if it takes above
 ten seconds; GNU time measures the memory in a run of its own, in which the receipts are counted. Give the built program, and how many
 seconds a run may take: a longer one, as the tenth of its messages tells, is left out (300 if none are given).

@@ -3,13 +3,14 @@
 
     python3 tools/chart.py SCRIPT OUTPUT > CHART.svg
 
-Each node of the script and each session has a line down the page, dashed while the node is down or the session gone. A PDU is an arrow with its name, its
-command_status and what it is about. All other lines of the script are notes on the lines of their nodes, and so are refusals and `unsettled`.
+Each node of the script and each session has a line down the page, dashed while the node is down or the session gone. A session is named by its account, once
+one has bound there. A PDU is an arrow with its name, its command_status and what it is about. All other lines of the script are notes on the lines of their
+nodes, and so are refusals and `unsettled`.
 
 Which line of the script a line of the output belongs to is inferred by docs/SCRIPTS.md: a refusal comes at once; an answer as packets come, once those of a
 majority of the nodes may have come back, or at the tick that ends its 30 seconds; a deliver_sm at its grant or, for a receipt, as packets come after what
 ended its message, or when a session takes what waited. What could belong to several lines belongs to the first of them from which all that follows fits.
-If there is none, it says so and draws nothing. Nothing but Python's library is needed.
+If there is none, it says which line of the output goes with none of the script, and draws nothing. Nothing but Python's library is needed.
 """
 import html
 import itertools
@@ -49,7 +50,7 @@ class Layout:
     """Where the lines of nodes and sessions stand: the sessions of a node on its left. `gap` is between a node and its last session, where the texts are."""
 
     def __init__(self, chart):
-        self.rows = chart.rows
+        self.rows, self.accounts = chart.rows, chart.accounts
         self.nodes = sorted(chart.nodes) or [1]
         self.gap = max([GAP] + [math.ceil(text_width(row.text)) + 20 for row in self.rows if row.kind in ARROWS])
         self.edge = max([LEFT] + [note_width(row.text) // 2 + 10 for row in self.rows if row.session is None])
@@ -82,14 +83,22 @@ class Layout:
             yield since, self.height - 10
 
 
+def name_of(layout, node, session):
+    """A session by the accounts that were bound on it."""
+    if session is None:
+        return f"node {node}"
+    return f"{', '.join(layout.accounts.get((node, session), ['ESME']))}, session {session}"
+
+
 def head(layout, node, session):
-    x = layout.columns[node, session]
+    x, name = layout.columns[node, session], name_of(layout, node, session)
+    half = max(62, math.ceil(text_width(name) / 2) + 8)
     marks = [TOP - 20, *itertools.chain(*layout.pauses(node, session)), layout.height - 10]
     for start, end, dash in zip(marks, marks[1:], itertools.cycle([{}, {"stroke_dasharray": "2 3"}])):
         if start < end:
             yield tag("line", x1=x, y1=start, x2=x, y2=end, stroke="#999999", **dash)
-    yield tag("rect", x=x - 62, y=10, width=124, height=26, rx=4, fill="#eef2f6", stroke="#667788")
-    yield tag("text", f"ESME, session {session}" if session else f"node {node}", x=x, y=27, text_anchor="middle", fill="#223344")
+    yield tag("rect", x=x - half, y=10, width=2 * half, height=26, rx=4, fill="#eef2f6", stroke="#667788")
+    yield tag("text", name, x=x, y=27, text_anchor="middle", fill="#223344")
 
 
 def cross(x, y, size):
@@ -156,6 +165,8 @@ def main():
         sys.exit(__doc__)
     try:
         print(svg(charted(*(pathlib.Path(name).read_bytes().decode("latin-1") for name in sys.argv[1:]))), end="")
+    except OSError as fault:
+        sys.exit(f"{fault.filename}: {fault.strerror}")
     except Misfit as fault:
         sys.exit(str(fault))
 

@@ -1,4 +1,4 @@
-"""The PDUs of scripts and their outputs, as `tools/chart.py` draws them."""
+"""The PDUs of scripts and their outputs, as `tools/chart.py` draws them and `tools/pdu.py` writes them; all fields of all PDUs are listed here."""
 import collections
 import re
 
@@ -14,10 +14,30 @@ STATUSES = {
     0x67: "ESME_RQUERYFAIL", 0xC0: "ESME_RINVOPTPARSTREAM",
 }
 STATES = {1: "ENROUTE", 2: "DELIVERED", 3: "EXPIRED", 4: "DELETED", 5: "UNDELIVERABLE", 8: "REJECTED"}
-# Bodies: t is a text up to its zero, o one octet. A submit_sm has its text behind them, and optional parameters.
+TAGS = {
+    0x001E: "receipted_message_id", 0x0204: "user_message_reference", 0x020C: "sar_msg_ref_num", 0x020E: "sar_total_segments", 0x020F: "sar_segment_seqnum",
+    0x0210: "sc_interface_version", 0x0424: "message_payload", 0x0427: "message_state",
+}
+# The fields of each body, in their order. Those of the first list are texts up to a zero, each of so many octets at most without it; a short_message has as
+# many octets as sm_length says; optional parameters are all that is left; every other field is one octet.
+LIMITS = {
+    "system_id": 15, "password": 8, "system_type": 12, "address_range": 40, "service_type": 5, "source_addr": 20, "destination_addr": 20, "message_id": 64,
+    "schedule_delivery_time": 16, "validity_period": 16, "final_date": 16,
+}
+LONGEST_TEXT, MOST_PARAMETERS, PARAMETERS = 254, 7_000, "optional parameters"
+SOURCE, DESTINATION = ["source_addr_ton", "source_addr_npi", "source_addr"], ["dest_addr_ton", "dest_addr_npi", "destination_addr"]
+BIND = ["system_id", "password", "system_type", "interface_version", "addr_ton", "addr_npi", "address_range"]
+MESSAGE = [
+    "service_type", *SOURCE, *DESTINATION, "esm_class", "protocol_id", "priority_flag", "schedule_delivery_time", "validity_period", "registered_delivery",
+    "replace_if_present_flag", "data_coding", "sm_default_msg_id", "sm_length", "short_message", PARAMETERS,
+]
 BODIES = {
-    "bind_receiver": "tttooot", "bind_transmitter": "tttooot", "bind_transceiver": "tttooot", "submit_sm": "tootootooottooooo", "query_sm": "toot",
-    "cancel_sm": "ttootoot", "unbind": "", "enquire_link": "",
+    "bind_receiver": BIND, "bind_transmitter": BIND, "bind_transceiver": BIND, "bind_receiver_resp": ["system_id", PARAMETERS],
+    "bind_transmitter_resp": ["system_id", PARAMETERS], "bind_transceiver_resp": ["system_id", PARAMETERS],
+    "submit_sm": MESSAGE, "submit_sm_resp": ["message_id"], "deliver_sm": MESSAGE, "deliver_sm_resp": ["message_id"],
+    "query_sm": ["message_id", *SOURCE], "query_sm_resp": ["message_id", "final_date", "message_state", "error_code"],
+    "cancel_sm": ["service_type", "message_id", *SOURCE, *DESTINATION], "cancel_sm_resp": [],
+    "unbind": [], "unbind_resp": [], "enquire_link": [], "enquire_link_resp": [], "generic_nack": [],
 }
 RESPONSE, NACK = 0x80000000, 0x80000000
 DELIVER, DELIVER_ANSWER = 0x05, 0x80000005
@@ -27,6 +47,10 @@ IS_RECEIPT, RECEIPT = 0x04, re.compile(rb"id:(\d{10}) .*? done date:(\d{10}) sta
 Pdu = collections.namedtuple("Pdu", "command status sequence body")
 # A delivery receipt: its message, the minute of its end, its end and its error.
 Receipt = collections.namedtuple("Receipt", "message minute end error")
+
+
+class Cut(Exception):
+    """A body ends before this field does."""
 
 
 def pdu_of(octets):
@@ -94,13 +118,18 @@ def about(pdu):
     return texts(body)[1 if name == "cancel_sm" and b"\0" in body else 0]
 
 
+def command_name(code):
+    """The whole name of a command, or none."""
+    if code == NACK:
+        return "generic_nack"
+    name = NAMES.get(code & ~RESPONSE, "")
+    return name + "_resp" if name and code & RESPONSE else name
+
+
 def title(pdu):
     if pdu.command is None:
         return "a wrong length"
-    if pdu.command == NACK:
-        name = "generic_nack"
-    else:
-        name = NAMES.get(pdu.command & ~RESPONSE, f"command 0x{pdu.command:08x}") + ("_resp" if pdu.command & RESPONSE else "")
+    name = command_name(pdu.command) or f"command 0x{pdu.command & ~RESPONSE:08x}" + ("_resp" if pdu.command & RESPONSE else "")
     receipt = receipt_of(pdu) if name == "deliver_sm" else None
     if receipt:
         return f"{name}, receipt: {receipt.end} of {receipt.message}"
@@ -108,15 +137,33 @@ def title(pdu):
     return f"{name}{status} {about(pdu)}".rstrip()
 
 
+def taken(field, body, found):
+    """What a body begins with as this field, and what is behind it; the fields before it were found."""
+    if field in LIMITS:
+        text, zero, behind = body.partition(b"\0")
+        length = len(text) if zero else len(body) + 1
+    else:
+        length = {"short_message": found.get("sm_length", b"\0")[0], PARAMETERS: len(body)}.get(field, 1)
+        text, behind = body[:length], body[length:]
+    if len(text) < length:
+        raise Cut(field)
+    return text, behind
+
+
+def split(fields, body):
+    """Each of these fields with its octets, and what is behind them."""
+    found = {}
+    for field in fields:
+        found[field], body = taken(field, body, found)
+    return found, body
+
+
 def is_whole(pdu):
     """Whether a request ends neither too early nor too late; of a text, or parameters, that come to an end it has none to say."""
-    body = pdu.body
-    for kind in BODIES.get(name_of(pdu), ""):
-        text, found, behind = body.partition(b"\0") if kind == "t" else (body[:1], body[:1], body[1:])
-        if not found:
-            return False
-        body = behind
-    return len(body) >= text[0] if name_of(pdu) == "submit_sm" else not body
+    try:
+        return not split(BODIES.get(name_of(pdu), []), pdu.body)[1]
+    except Cut:
+        return False
 
 
 def is_id(text):

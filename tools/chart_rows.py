@@ -8,13 +8,13 @@ import re
 
 from chart_pdus import DELIVER, DELIVER_ANSWER, NACK, RESPONSE, Pdu
 from chart_pdus import about, cut, is_id, is_response, is_whole, message_in, name_of, receipt_of, texts, title
+from script_lines import OPENING, Bad, read_line
 
 TIMED_OUT, THROTTLED = 0x08, 0x58
 # The ends of receipts that come of an answer to an attempt, by its status. A message may be undeliverable without it, too, with another error.
 OUTCOMES = {"DELIVRD": 0x00, "UNDELIV": 0x65, "REJECTD": 0x66}
-OPENING, LAST_MOMENT, LONGEST_WAIT = 946_684_800, 4_102_444_799, 30
-LONGEST_LINE, LAST_INCARNATION, WINDOW, MOST_OPEN, MOST = 20_000, 9_999, 10, 1_000, 18_446_744_073_709_551_615
-NUMBER, DIGITS, PRINTED = re.compile("0|[1-9][0-9]{0,19}"), re.compile("(?:[0-9a-fA-F]{2})+"), re.compile("pdu ([1-9]) ([1-9][0-9]?) ((?:[0-9a-f]{2})+)")
+LONGEST_WAIT, LAST_INCARNATION, WINDOW, MOST_OPEN = 30, 9_999, 10, 1_000
+PRINTED = re.compile("pdu ([1-9]) ([1-9][0-9]?) ((?:[0-9a-f]{2})+)")
 ACCOUNTS = {"sme1", "sme2"}
 # How many answers of a majority it takes to tell a state; to agree on something, a promise and a vote; and to delete a message, which is both. A settle has
 # as many rounds as any of them.
@@ -29,10 +29,6 @@ Row = collections.namedtuple("Row", "kind session nodes text")
 
 class Misfit(Exception):
     """The output is not that of the script."""
-
-
-class Bad(Exception):
-    """The line of a script is bad."""
 
 
 # ---- what may be answered, and when
@@ -142,12 +138,6 @@ class Node:
 
 # ---- rows
 
-def number(word, least, most):
-    if not NUMBER.fullmatch(word) or not least <= int(word) <= most:
-        raise Bad
-    return int(word)
-
-
 def moment_text(moment, form):
     return datetime.datetime.fromtimestamp(moment, datetime.timezone.utc).strftime(form)
 
@@ -155,14 +145,16 @@ def moment_text(moment, form):
 class Chart:
     """Rows, made by going over the lines of the script and taking off the output what each of them prints. `choices` says at which lines that may be refused
     they are, in turn; where it says nothing, they are. `sent` is the highest number of a packet that was sent, and `unsent` the lowest that was not. Of
-    messages stands what their submit_sm was about, and what may have ended them: answers to attempts, by their status, and each cancel_sm."""
+    messages stands what their submit_sm was about, and what may have ended them: answers to attempts, by their status, and each cancel_sm. Of each number of a
+    session at a node stand the accounts that were bound there."""
 
     def __init__(self, output, choices=()):
         self.output = collections.deque(line for line in output.split("\n") if line)
+        self.printed, self.place, self.line_text = len(self.output), 0, ""
         self.choices, self.made = collections.deque(choices), []
         self.rows, self.nodes = [], {}
         self.latest, self.sent, self.unsent = OPENING, 0, math.inf
-        self.messages, self.causes = {}, {}
+        self.messages, self.causes, self.accounts = {}, {}, {}
 
     def row(self, kind, session, nodes, text):
         self.rows.append(Row(kind, session, tuple(nodes), text))
@@ -173,7 +165,11 @@ class Chart:
     # -- the next line of the output
 
     def misfit(self):
-        return Misfit(f"the output does not fit the script: {self.output[0] if self.output else 'it ends too early'}")
+        if not self.output:
+            return Misfit(f"the output does not fit the script: it ends at line {self.place} of the script, `{self.line_text}`, which prints more")
+        printed = f"line {self.printed - len(self.output) + 1} of the output, `{self.output[0]}`,"
+        of_line = f"is not of line {self.place} of the script, `{self.line_text}`" if self.line_text else "is of no line of the script"
+        return Misfit(f"the output does not fit the script: {printed} {of_line}")
 
     def next_line(self):
         return self.output[0] if self.output else ""
@@ -209,6 +205,8 @@ class Chart:
         session.asked[key] = [request for request in session.asked[key] if request is not found]
         self.row("answer" if answer.status == 0 else "bad", session_number, [at], title(answer))
         self.learns(session, found.pdu, answer)
+        if session.account and session.account not in self.accounts.setdefault((at, session_number), []):
+            self.accounts[at, session_number].append(session.account)
         return True
 
     def learns(self, session, asked, answer):
@@ -448,57 +446,49 @@ class Chart:
             self.all_go(node)
             self.nodes[node] = Node(there.incarnation + 1)
 
-    def opens(self, count):
-        if self.nodes:
-            raise Bad
-        self.nodes = {node: Node() for node in range(1, count + 1)}
-
     # -- a line
 
-    def node(self, word):
-        return number(word, 1, len(self.nodes))
-
-    def line(self, words):
-        """What a line of the script draws; nothing is drawn of a bad one."""
-        if words[0] not in ("deliver", "crash", "restart"):
+    def line(self, said):
+        """What a line of the script draws."""
+        if said[0] not in ("deliver", "crash", "restart"):
             self.unsent = math.inf
-        match words:
-            case ["nodes", count, *serial] if len(serial) < 2 and all(number(word, 1, 99999) for word in serial):
-                self.opens(number(count, 1, 9))
-            case ["pdu", node, session, digits] if DIGITS.fullmatch(digits):
-                self.hears(self.node(node), number(session, 1, 99), bytes.fromhex(digits))
-            case ["tick", node, moment]:
-                self.ticks(self.node(node), number(moment, OPENING, LAST_MOMENT))
-            case ["grant", node, message] if is_id(message):
-                self.grants(self.node(node), message)
-            case ["settle", *nodes] if self.nodes:
-                self.settles(sorted({self.node(node) for node in nodes}))
-            case ["deliver", packet, node]:
-                self.delivers(number(packet, 0, MOST), self.node(node))
-            case ["replay", count] if self.nodes:
-                self.replays(number(count, 0, MOST))
-            case ["crash", node, packet, "before" | "after" as side]:
-                self.crashes(self.node(node), number(packet, 0, MOST), side)
-            case ["restart", node]:
-                self.restarts(self.node(node))
-            case _:
-                raise Bad
+        match said:
+            case "nodes", count, _:
+                self.nodes = {node: Node() for node in range(1, count + 1)}
+            case "pdu", node, session, octets:
+                self.hears(node, session, octets)
+            case "tick", node, moment:
+                self.ticks(node, moment)
+            case "grant", node, message:
+                self.grants(node, message)
+            case "settle", nodes:
+                self.settles(nodes)
+            case "deliver", packet, node:
+                self.delivers(packet, node)
+            case "replay", count:
+                self.replays(count)
+            case "crash", node, packet, side:
+                self.crashes(node, packet, side)
+            case "restart", node:
+                self.restarts(node)
 
-    def is_bad(self, line):
+    def goes_over(self, line):
+        """Whether a line is good; nothing is drawn of a bad one."""
         try:
-            if len(line) > LONGEST_LINE:
-                return True
-            if line and not line.startswith("#"):
-                self.line(line.split(" "))
+            said = read_line(line, len(self.nodes))
         except Bad:
-            return True
-        return False
+            return False
+        if said:
+            self.line(said)
+        return True
 
     def reads(self, script):
-        lines = enumerate(script.split("\n"), start=1)
-        bad = next((place for place, line in lines if self.is_bad(line)), None)
-        if bad:
-            self.row("refused", None, [1], f"bad line {bad}")
+        lines = script.split("\n")
+        for self.place, self.line_text in enumerate(lines, start=1):
+            if not self.goes_over(self.line_text):
+                self.row("refused", None, [1], f"bad line {self.place}")
+                break
+        self.line_text = ""
         if self.output:
             raise self.misfit()
         return self

@@ -3,8 +3,9 @@
 
     python3 tools/crates.py
 
-Crates are listed in crates.txt. Each has a README; each but those of tests stands in the picture of README.md and in the list of docs/ARCHITECTURE.md, and, if it has
-definitions, in docs/DEFINITIONS.md. No page links to another. (The table of docs/GATE.md is written by tools/measure_gate.py.) The exit status is 1 if something is missing.
+Crates are listed in crates.txt. Each has a README; each but those of tests stands in the picture of README.md and in the list of docs/ARCHITECTURE.md, and, if
+it has definitions, in docs/DEFINITIONS.md. No page links to another. (The table of docs/GATE.md is written by tools/measure_gate.py.) The exit status is 1 if
+something is missing.
 """
 import re
 import sys

@@ -5,8 +5,8 @@
 
 For each script that ends well (all rows of crates/centre/data/rows, or these) it runs `PROGRAM script`
 
-- with the first, the second, the third read failed, and so on, until a run makes fewer: status 1, one line on standard error, and output that is the beginning of
-  what is expected, up to the end of a line, and holds the text of each line of the script that had come whole;
+- with the first, the second, the third read failed, and so on, until a run makes fewer: status 1, one line on standard error, and output that is the
+  beginning of what is expected, up to the end of a line, and holds the text of each line of the script that had come whole;
 - likewise with each write failed: status 1 and one line, and output that is the beginning of what is expected;
 - with reads and writes of 1, 2, 3 and 7 octets at most, and with every second read and write interrupted: all of the output, and status 0.
 

@@ -1,18 +1,37 @@
 #!/usr/bin/env python3
-"""Looks whether the examples of use in the READMEs of the crates are code of the repository.
+"""Looks whether the examples of use in the READMEs of the crates are code of the repository, and tries those that are whole programs.
 
-    python3 tools/readme_examples.py
+    python3 tools/readme_examples.py                      # a second
+    python3 tools/readme_examples.py --try [CRATE ..]     # builds and runs the whole programs of these crates, or of all, unproved: half a minute each
+    python3 tools/readme_examples.py --prove [CRATE ..]   # the same, proved: what is not proved below them is proved first
 
-A README of a crate with code has a section 'An example': a sentence that names a file under `crates`, and a block of code. Each line of the block has to
-stand in the file that was named last, in this order; so it is code that the gate proves. This is beside the gate.
+A README of a crate with code has a section 'An example'. A block there that is a part of a file comes after a sentence that names the file under `crates`. Each
+line of the block has to stand in the file that was named last, in this order; so it is code that the gate proves. A block with a `fn main` is a program: the
+sentence before it has its line for `crates.txt`, as `caller: pdu_codec`, and the one behind it says what it prints. To try it, the crates are copied to a
+folder of their own, with what is built of their libraries; there the program is the crate `caller`. This is beside the gate.
 """
 import pathlib
 import re
+import shutil
+import subprocess
 import sys
+import tempfile
+from typing import NamedTuple
 
-CRATES = pathlib.Path(__file__).resolve().parent.parent / "crates"
+TOP = pathlib.Path(__file__).resolve().parent.parent
+CRATES = TOP / "crates"
 BLOCK = re.compile(r"```rust\n(.*?)```", re.DOTALL)
 FILE = re.compile(r"`([^`]+\.rt)`")
+LINE, PRINTS = re.compile(r"`caller:\s+([\w\s]+)`"), re.compile(r"\s*It prints `([^`]*)`")
+SOURCES = ("src", "specs", "proofs")
+
+
+class Caller(NamedTuple):
+    """A whole program: the crate whose README has it, what it stands on, its code, and what it prints."""
+    crate: str
+    beneath: str
+    code: str
+    printed: str
 
 
 def code(text):
@@ -31,19 +50,78 @@ def source(readme, before):
     return next(path for path in (CRATES / name, readme.parent / name) if path.exists())
 
 
-def main():
-    count = wrong = 0
+def blocks():
+    """Each README with each block of code in it."""
     for readme in sorted(CRATES.glob("*/README.md")):
         text = readme.read_text()
         for block in BLOCK.finditer(text):
-            count += 1
+            yield readme, text, block
+
+
+def callers():
+    for readme, text, block in blocks():
+        if "fn main(" in block.group(1):
+            beneath, printed = LINE.findall(text[:block.start()]), PRINTS.match(text[block.end():])
+            if not beneath or not printed:
+                sys.exit(f"{readme.parent.name}: a program without its line for crates.txt, or what it prints")
+            yield Caller(readme.parent.name, " ".join(beneath[-1].split()), block.group(1), printed[1])
+
+
+def faults():
+    """What is wrong with the parts of files."""
+    for readme, text, block in blocks():
+        if "fn main(" not in block.group(1):
             path = source(readme, text[:block.start()])
             lost = missing(code(block.group(1)), code(path.read_text()))
             if lost:
-                wrong += 1
-                print(f"{readme.parent.name}: {path.name} has no line {lost!r}")
-    print(f"{count} examples, {wrong} wrong")
-    sys.exit(1 if wrong else 0)
+                yield f"{readme.parent.name}: {path.name} has no line {lost!r}"
+
+
+def copied(folder):
+    """The crates in a folder of their own, with their built libraries."""
+    for crate in (path for path in CRATES.iterdir() if path.is_dir()):
+        for part in (*SOURCES, "out/rlib"):
+            if (crate / part).is_dir():
+                shutil.copytree(crate / part, folder / "crates" / crate.name / part)
+
+
+def tried(folder, caller, command):
+    """What is wrong with a program, if anything is."""
+    crate = folder / "crates" / "caller"
+    shutil.rmtree(crate, ignore_errors=True)
+    (crate / "src").mkdir(parents=True)
+    (crate / "src" / "main.rt").write_text(caller.code)
+    (folder / "crates.txt").write_text((TOP / "crates.txt").read_text() + f"caller: {caller.beneath}\n")
+    ran = subprocess.run(["rt", command], cwd=crate, stdin=subprocess.DEVNULL, capture_output=True, text=True)
+    if ran.returncode or ran.stdout != caller.printed + "\n":
+        return f"{caller.crate}: status {ran.returncode}\n{ran.stdout}{ran.stderr}"
+    return None
+
+
+def try_callers(command, names):
+    wrong = 0
+    with tempfile.TemporaryDirectory() as name:
+        folder = pathlib.Path(name)
+        copied(folder)
+        found = [caller for caller in callers() if not names or caller.crate in names]
+        for caller in found:
+            told = tried(folder, caller, command)
+            print(told or f"{caller.crate}: {caller.printed}", flush=True)
+            wrong += 1 if told else 0
+    print(f"{len(found)} programs, {wrong} wrong")
+    return wrong
+
+
+def main():
+    match sys.argv[1:]:
+        case []:
+            wrong = list(faults())
+            print(*wrong, f"{len(list(blocks()))} examples, of which {len(list(callers()))} are programs, {len(wrong)} wrong", sep="\n")
+            sys.exit(1 if wrong else 0)
+        case ["--try" | "--prove" as way, *names]:
+            sys.exit(1 if try_callers("try" if way == "--try" else "run", names) else 0)
+        case _:
+            sys.exit(__doc__)
 
 
 if __name__ == "__main__":

@@ -3,10 +3,10 @@
 
     python3 tools/store_checks.py PROGRAM
 
-PROGRAM is bench/store/main.rt.in, built in a crate of its own as bench/store.py does it. Each file is made by Python's sqlite3: a sound one, one with each kind of damage, with other tables, with
-one table alone, and what is no database. The store opens, loads or refuses it as the table below says; a file that it refuses has the same octets after it. A
-directory is refused, too, and a file that the user may not read, or may read and not write: if the user is root, another one, 65534, opens that. The exit
-status is 1 if something differs.
+PROGRAM is bench/store/main.rt.in, built in a crate of its own as bench/store.py does it. Each file is made by Python's sqlite3: a sound one, one with each kind
+of damage, with other tables, with one table alone, and what is no database. The store opens, loads or refuses it as the table below says; a file that it
+refuses has the same octets after it. A directory is refused, too, and a file that the user may not read, or may read and not write: if the user is root,
+another one, 65534, opens that. The exit status is 1 if something differs.
 """
 import hashlib
 import os

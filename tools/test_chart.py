@@ -2,6 +2,8 @@
 """Tests of tools/chart.py: python3 tools/test_chart.py"""
 import pathlib
 import re
+import subprocess
+import sys
 import unittest
 import xml.etree.ElementTree
 
@@ -376,6 +378,15 @@ class Drawing(unittest.TestCase):
         self.assertEqual(self.columns("sessions_1_and_99"), [(1, 1), (1, 99), (1, None)])
         self.assertEqual(self.columns("tick_before_nodes"), [(1, None)])
 
+    def test_sessions_are_named_by_their_accounts(self):
+        def names(name):
+            layout = chart.Layout(chart_rows.charted(*ALL[name]))
+            return [chart.name_of(layout, *column) for column in layout.columns]
+
+        self.assertEqual(names("three_nodes"), ["sme1, session 1", "node 1", "node 2", "sme1, session 1", "node 3"])
+        self.assertEqual(names("two_esmes"), ["sme1, session 1", "sme2, session 2", "node 1"])
+        self.assertEqual(names("submit_before_a_bind"), ["ESME, session 1", "node 1"])
+
     def test_a_line_is_dashed_while_its_node_is_down(self):
         layout = chart.Layout(chart_rows.charted(*ALL["a_node_stops"]))
         stops, starts = (next(place for place, row in enumerate(layout.rows) if row.kind == kind) for kind in ("crash", "restart"))
@@ -393,6 +404,30 @@ class Drawing(unittest.TestCase):
 
     def test_a_settle_of_some_nodes_has_a_box_for_each_group(self):
         self.assertEqual(list(chart.neighbours((1, 2, 4, 7, 8, 9))), [(1, 2), (4, 4), (7, 9)])
+
+
+class Faults(unittest.TestCase):
+    """What is told in place of a picture."""
+
+    def told(self, *names):
+        ran = subprocess.run([sys.executable, ROOT / "tools/chart.py", *map(str, names)], capture_output=True, text=True)
+        self.assertEqual((ran.returncode, ran.stdout), (1, ""))
+        return ran.stderr.strip()
+
+    def test_a_file_that_is_not_there(self):
+        self.assertEqual(self.told(ROOT / "crates/centre/stdin", "/nowhere/output"), "/nowhere/output: No such file or directory")
+        self.assertTrue(self.told(ROOT / "crates/centre", "/nowhere/output").endswith("Is a directory"))
+
+    def test_an_output_of_another_script(self):
+        script, output = ROOT / "crates/centre/stdin", ROOT / "crates/centre/stdout"
+        head = "the output does not fit the script: "
+        self.assertEqual(self.told(script, script), head + "line 1 of the output, `nodes 1`, is of no line of the script")
+        with self.assertRaises(chart.Misfit) as raised:
+            told("nodes 2\ncrash 2 0 before\nsettle\n", output.read_text())
+        self.assertEqual(str(raised.exception), head + f"line 1 of the output, `pdu 1 1 {BOUND}`, is not of line 2 of the script, `crash 2 0 before`")
+        with self.assertRaises(chart.Misfit) as raised:
+            told(lines("nodes 1", f"pdu 1 1 {UNBIND}", "restart 1"), "")
+        self.assertEqual(str(raised.exception), head + "it ends at line 3 of the script, `restart 1`, which prints more")
 
 
 class Streams(unittest.TestCase):
