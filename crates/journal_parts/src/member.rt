@@ -243,7 +243,7 @@ impl<S: StableStore, L: Begins> Member<S, L> {
         ensures known { IfSome result (λ chain. (message_at (kept_of self.now.post.node.kept) id).known ≡ Some chain.now.decrees) }
         ensures id { IfSome result (λ chain. chain.now.id ≡ id) }
     {
-        if self.post.astray {
+        if self.is_astray() {
             return None;
         }
         self.post.node.attempt(id)
