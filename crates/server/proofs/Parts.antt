@@ -6,7 +6,7 @@ use Rattle.stable_store.specs.Stored.{Stored}
 use Rattle.node_threads.specs.Closing.{Closed, IsClosed}
 use Rattle.node_threads.specs.GoingOn.{kept_in, numbers_behind}
 use Rattle.node_threads.specs.Numbers.{Numbers}
-use Rattle.server.specs.Parts.{ClosesParts}
+use Rattle.node_threads.specs.Histories.{ClosesParts}
 
 -- each of them began with something
 pub begun_with : {S : Type 0} (stored : S → Stored) (cluster : Cluster) (kept : ℕ → Kept) (numbers : Numbers) (parts : ℕ) (closed : Closed S)

@@ -3,7 +3,7 @@
 ghost use Rattle.std.specs.Prelude.{◌≡◌, ℕ, IfSome, false};
 ghost use Rattle.node_threads.specs.Closing.{IsClosed};
 ghost use Rattle.node_threads.specs.GoingOn.{AreSound, GoesOn};
-ghost use Rattle.server.specs.Parts.{ClosesParts};
+ghost use Rattle.node_threads.specs.Histories.{ClosesParts};
 
 use crate::ending::Ending;
 use crate::house::House;

@@ -3,7 +3,7 @@
 ghost use Rattle.std.specs.Prelude.{◌≡◌, ℕ, length, IfOk, IfSome};
 ghost use Rattle.node_threads.specs.Numbers.{none_sent};
 ghost use Rattle.node_threads.specs.Actions.{AllBegin};
-ghost use Rattle.server.specs.Parts.{ClosesParts};
+ghost use Rattle.node_threads.specs.Histories.{ClosesParts};
 
 use crate::ending::{End, Ending};
 use crate::house::{Counters, House};

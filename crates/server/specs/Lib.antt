@@ -1,2 +1,0 @@
--- What contracts of this crate cite.
-pub mod Parts
