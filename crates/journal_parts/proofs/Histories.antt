@@ -32,7 +32,7 @@ behind_both first second packets =
 
 module _ {S : Type 0} (stored : S → Stored) (cluster : Cluster) (kept : ℕ → Kept) (numbers : Numbers) where
   -- where a journal leads its nodes
-  ends_of : (parts : ℕ) (closed : Closed S) → ClosesParts stored cluster kept numbers parts closed → ℕ → Kept
+  abbrev pub ends_of : (parts : ℕ) (closed : Closed S) → ClosesParts stored cluster kept numbers parts closed → ℕ → Kept
   ends_of zero closed closes = closes.ends
   ends_of (suc parts) closed (before, other, earlier, sound, closes) = closes.ends
 

@@ -139,6 +139,15 @@ impl House {
         self.counters.newest.load(Ordering::SeqCst)
     }
 
+    /// How many packets have come to nodes, to each counted for itself.
+    pub(crate) fn come(&self) -> u64 {
+        let mut come = 0u64;
+        for station in &self.stations {
+            come = come.saturating_add(station.next.load(Ordering::SeqCst));
+        }
+        come
+    }
+
     /// Whether each packet up to this number has come to all nodes.
     pub(crate) fn have_come(&self, newest: u64) -> bool {
         self.stations

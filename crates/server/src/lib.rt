@@ -18,6 +18,7 @@ mod notice;
 mod pace;
 mod parts;
 mod reading;
+mod rounds;
 mod seat_pool;
 mod serving;
 mod shared;

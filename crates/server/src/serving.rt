@@ -10,6 +10,7 @@ use crate::house::{Counters, House};
 use crate::log::Log;
 use crate::pace::Pace;
 use crate::parts::serve_parts;
+use crate::rounds::Rounds;
 use crate::site::Site;
 use crate::starting::start_listeners;
 use crate::station::{Anew, Station};
@@ -170,6 +171,7 @@ fn stations_of<R: Clock>(
             next: AtomicU64::new(1),
             anew: Anew::none(),
             has_begun: AtomicBool::new(false),
+            rounds: Rounds::none(),
             is_anew: AtomicBool::new(false),
             serials: AtomicU64::new(0),
             life: Mutex::new(lives.pop_front()),

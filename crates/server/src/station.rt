@@ -1,5 +1,6 @@
 //! A node of the server, as its threads share it.
 
+use crate::rounds::Rounds;
 use crate::site::Site;
 use crossbeam_channel::{Receiver, Sender};
 use mc_types::{LAST_SERIAL, NodeNo};
@@ -31,6 +32,8 @@ pub(crate) struct Station {
     pub(crate) anew: Anew,
     /// Whether it has had a tick, so that its clock goes.
     pub(crate) has_begun: AtomicBool,
+    /// How far the rounds are that its last tick began.
+    pub(crate) rounds: Rounds,
     /// Whether it started anew, and is not through with its first tick.
     pub(crate) is_anew: AtomicBool,
     /// How many serials its incarnation has given.

@@ -44,17 +44,11 @@ pub(crate) fn milliseconds<R: Clock>(rt: &R) -> u64 {
     }
 }
 
-/// How often it is looked, 20 milliseconds apart, whether packets have come that were sent, before the next tick: for two and a half seconds, and for fifteen
-/// behind the first tick of a life, which begins a round for each message that ever was.
-const LOOKS: u32 = 125;
+/// How often it is looked whether those of the nodes below have begun: for ten minutes.
+const BELOW_LOOKS: u32 = 30_000;
 
-const FIRST_LOOKS: u32 = 750;
-
-/// How many packets of a round come one behind the other (Paxos Made Simple, section 2.2): it asks for promises, has them, proposes, and is voted for.
-const PHASES: u32 = 4;
-
-/// How often it is looked whether those of the nodes below have begun: for a minute.
-const BELOW_LOOKS: u32 = 3000;
+/// How often it is looked in vain whether packets come before rounds are given up: for five seconds.
+const VAIN_LOOKS: u32 = 250;
 
 /// Hands in the first tick of a life, unless the life goes on from another part of the journal: before it the clock of a node stands at its least moment, so
 /// nobody is served before. As the server begins it comes once those of the nodes below are through; a node that starts anew is served while it goes on.
@@ -81,13 +75,13 @@ pub(crate) fn tick_first<S: StableStore, L: Begins, R: Wait + Eprint + Clock>(
     if station.is_anew.load(Ordering::SeqCst) {
         shift.tell_node("its first tick is under way; it serves");
     } else {
-        wait_for_rounds(shift, FIRST_LOOKS);
+        wait_for_rounds(shift);
     }
     station.has_begun.store(true, Ordering::SeqCst);
 }
 
 /// Hands in a tick each second until the life of the node is over; but each one ends all rounds, so the next one waits until those are through that the last one
-/// began, for ten seconds at most.
+/// began, also in another part of the journal, unless no packet comes any more.
 pub(crate) fn tick_on<S: StableStore, L: Begins, R: Wait + Eprint + Clock>(
     shift: &Shift<'_, S, L, R>,
 ) {
@@ -95,12 +89,9 @@ pub(crate) fn tick_on<S: StableStore, L: Begins, R: Wait + Eprint + Clock>(
         shift.shared.house.end.set(shift.rt, Ending::Threads);
         return;
     };
-    if shift.station.is_anew.swap(false, Ordering::SeqCst) {
-        wait_for_rounds(shift, FIRST_LOOKS);
-        shift.tell_node("through with its first tick");
-    }
     let mut low = 0u32;
     for _ in shift.rt.forever() {
+        wait_for_rounds(shift);
         sleep(shift);
         if shift.is_over() {
             break;
@@ -109,7 +100,6 @@ pub(crate) fn tick_on<S: StableStore, L: Begins, R: Wait + Eprint + Clock>(
             shift.meet(trouble);
         }
         low = start_anew_if_low(shift, low);
-        wait_for_rounds(shift, LOOKS);
     }
     shift.give_back(seat);
 }
@@ -132,14 +122,36 @@ fn start_anew_if_low<S: StableStore, L: Begins, R: Wait + Eprint>(
     ticks.saturating_add(1)
 }
 
-/// Waits until the rounds are through that have begun, as far as the packets that are sent come: each of their phases for so many looks at most.
+/// Waits until the rounds are through that the last tick began, as long as packets come. If the life is over before, they are waited for in the next part.
 fn wait_for_rounds<S: StableStore, L: Begins, R: Wait + Eprint + Clock>(
     shift: &Shift<'_, S, L, R>,
-    looks: u32,
 ) {
-    for _ in 0..PHASES {
-        let newest = shift.shared.house.newest();
-        wait_until(shift, looks, &|| shift.shared.house.have_come(newest));
+    let house = &shift.shared.house;
+    let rounds = &shift.station.rounds;
+    let mut vain = 0u32;
+    let mut come = house.come();
+    for _ in shift.rt.forever() {
+        let Some(awaited) = rounds.awaited() else {
+            break;
+        };
+        if shift.is_over() {
+            return;
+        }
+        if house.have_come(awaited) {
+            rounds.pass(house.newest());
+            vain = 0;
+            continue;
+        }
+        thread::sleep(shift.rt, Duration::from_millis(PIECE));
+        let now = house.come();
+        vain = if now == come { vain.saturating_add(1) } else { 0 };
+        come = now;
+        if vain >= VAIN_LOOKS {
+            rounds.give_up();
+        }
+    }
+    if shift.station.is_anew.swap(false, Ordering::SeqCst) {
+        shift.tell_node("through with its first tick");
     }
 }
 
@@ -182,6 +194,7 @@ fn tick<S: StableStore, L: Begins, R: Wait + Eprint + Clock>(
     let tick = Action::Tick { node, moment, up };
     let slip = shift.shared.cluster.act(shift.rt, seat, tick)?;
     shift.shared.house.ring(shift.rt, &slip);
+    shift.station.rounds.begin(shift.shared.house.newest());
     site.pass(moment);
     site.tell(shift.rt, slip.outputs())?;
     drop(slip);
