@@ -9,8 +9,9 @@ NODES = (1, 2, 3)
 DESTINATION = "155"
 # How many parts are to be closed and how many nodes to start anew, and for how many seconds that is waited for.
 PARTS, STARTS, SECONDS = 3, 2, 90
-# How long an ESME waits between two submit_sm.
-PAUSE = 0.1
+# How long an ESME waits between two submit_sm; and for how long it is waited until all is delivered, of which a few are attempted again a minute later, since
+# their node started anew.
+PAUSE, DELIVERY = 0.1, 120
 PART = re.compile(r"part (\d+): entries (\d+), final states told \d+, deliveries cut short \d+, closed in (\d+) ms")
 ANEW = re.compile(r"node (\d+): started anew, incarnation (\d+)")
 
@@ -81,8 +82,9 @@ class GoingOn:
                 if self.esmes[0].state(message_id)[2] == pdus.DELIVERED:
                     left.discard(message_id)
             return not left
-        wait(self.esmes, all_delivered, 60)
+        wait(self.esmes, all_delivered, DELIVERY)
         self.check("all_are_delivered", not left, sorted(left)[:5])
+        wait(self.esmes, lambda: False, 1)
         strange = [one for one in self.ids if {esme.state(one)[2] for esme in self.esmes} != {pdus.DELIVERED}]
         self.check("each_node_tells_so", not strange, strange[:5])
         silent = [one for one in self.ids if not self.esmes[int(one[0]) - 1].receipts(one)]

@@ -80,7 +80,9 @@ fn live<
             if shift.is_over() {
                 break;
             }
-            start_attendants(&shift, scope);
+            if station.has_begun.load(Ordering::SeqCst) {
+                start_attendants(&shift, scope);
+            }
             thread::sleep(rt, Duration::from_millis(PAUSE));
         }
         end_life(&shift);
@@ -201,6 +203,7 @@ fn begin_anew<S: StableStore, L: Begins, R: Wait + Eprint + Clock>(
         let _ = station.site.lock(rt).refuse_waiting(rt, id);
     }
     station.serials.store(0, Ordering::SeqCst);
+    station.has_ticked.store(false, Ordering::SeqCst);
     station.has_begun.store(false, Ordering::SeqCst);
     station.is_anew.store(true, Ordering::SeqCst);
     station.anew.is_done();

@@ -170,6 +170,7 @@ fn stations_of<R: Clock>(
             woken,
             next: AtomicU64::new(1),
             anew: Anew::none(),
+            has_ticked: AtomicBool::new(false),
             has_begun: AtomicBool::new(false),
             rounds: Rounds::none(),
             is_anew: AtomicBool::new(false),

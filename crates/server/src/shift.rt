@@ -35,7 +35,7 @@ impl<S: StableStore, L: Begins, R: Wait + Eprint> Shift<'_, S, L, R> {
     /// Whether no delivery is to be begun.
     pub(crate) fn holds(&self) -> bool {
         let house = &self.shared.house;
-        house.pace.holds() || self.is_over() || self.has_few_serials()
+        house.pace.holds() || self.is_over()
     }
 
     /// Whether the node has few serials left.

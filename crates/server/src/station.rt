@@ -30,7 +30,9 @@ pub(crate) struct Station {
     pub(crate) next: AtomicU64,
     /// Why it is to start anew, if it is.
     pub(crate) anew: Anew,
-    /// Whether it has had a tick, so that its clock goes.
+    /// Whether it has had a tick in this incarnation, so that its clock goes.
+    pub(crate) has_ticked: AtomicBool,
+    /// Whether it may be served: it is through with that tick, or started anew.
     pub(crate) has_begun: AtomicBool,
     /// How far the rounds are that its last tick began.
     pub(crate) rounds: Rounds,

@@ -50,8 +50,8 @@ const BELOW_LOOKS: u32 = 30_000;
 /// How often it is looked in vain whether packets come before rounds are given up: for five seconds.
 const VAIN_LOOKS: u32 = 250;
 
-/// Hands in the first tick of a life, unless the life goes on from another part of the journal: before it the clock of a node stands at its least moment, so
-/// nobody is served before. As the server begins it comes once those of the nodes below are through; a node that starts anew is served while it goes on.
+/// Sees to the first tick of a life: before it the clock of a node stands at its least moment, so nobody is served before. As the server begins, it comes once
+/// those of the nodes below are through, and its own rounds are waited for, also in another part of the journal; a node that starts anew is served meanwhile.
 pub(crate) fn tick_first<S: StableStore, L: Begins, R: Wait + Eprint + Clock>(
     shift: &Shift<'_, S, L, R>,
 ) {
@@ -59,6 +59,26 @@ pub(crate) fn tick_first<S: StableStore, L: Begins, R: Wait + Eprint + Clock>(
     if station.has_begun.load(Ordering::SeqCst) {
         return;
     }
+    if !station.has_ticked.load(Ordering::SeqCst) {
+        tick_once(shift);
+    }
+    if station.is_anew.load(Ordering::SeqCst) {
+        shift.tell_node("its first tick is under way; it serves");
+    } else {
+        wait_for_rounds(shift);
+    }
+    begin(shift);
+}
+
+/// The node may be served, unless its first tick is still to come, or its rounds are waited for in the next part of the journal.
+fn begin<S: StableStore, L: Begins, R: Wait + Eprint>(shift: &Shift<'_, S, L, R>) {
+    if shift.station.has_ticked.load(Ordering::SeqCst) && !shift.is_over() {
+        shift.station.has_begun.store(true, Ordering::SeqCst);
+    }
+}
+
+/// Hands in the first tick of a life, once those of the nodes below are through.
+fn tick_once<S: StableStore, L: Begins, R: Wait + Eprint + Clock>(shift: &Shift<'_, S, L, R>) {
     let Some(mut seat) = shift.seat() else {
         shift.shared.house.end.set(shift.rt, Ending::Threads);
         return;
@@ -68,16 +88,12 @@ pub(crate) fn tick_first<S: StableStore, L: Begins, R: Wait + Eprint + Clock>(
         BELOW_LOOKS,
         &|| shift.shared.house.have_begun(shift.node()),
     );
-    if let Err(trouble) = tick(shift, &mut seat) {
+    if !shift.is_over()
+        && let Err(trouble) = tick(shift, &mut seat)
+    {
         shift.meet(trouble);
     }
     shift.give_back(seat);
-    if station.is_anew.load(Ordering::SeqCst) {
-        shift.tell_node("its first tick is under way; it serves");
-    } else {
-        wait_for_rounds(shift);
-    }
-    station.has_begun.store(true, Ordering::SeqCst);
 }
 
 /// Hands in a tick each second until the life of the node is over; but each one ends all rounds, so the next one waits until those are through that the last one
@@ -99,6 +115,7 @@ pub(crate) fn tick_on<S: StableStore, L: Begins, R: Wait + Eprint + Clock>(
         if let Err(trouble) = tick(shift, &mut seat) {
             shift.meet(trouble);
         }
+        begin(shift);
         low = start_anew_if_low(shift, low);
     }
     shift.give_back(seat);
@@ -194,6 +211,7 @@ fn tick<S: StableStore, L: Begins, R: Wait + Eprint + Clock>(
     let tick = Action::Tick { node, moment, up };
     let slip = shift.shared.cluster.act(shift.rt, seat, tick)?;
     shift.shared.house.ring(shift.rt, &slip);
+    shift.station.has_ticked.store(true, Ordering::SeqCst);
     shift.station.rounds.begin(shift.shared.house.newest());
     site.pass(moment);
     site.tell(shift.rt, slip.outputs())?;
