@@ -13,8 +13,8 @@ PROGRAM is the built program, as crates/centre/out/centre. It is started as `PRO
     going_on   over stores of its own: ESMEs stay bound while parts of the journal are closed, and nodes start anew (clients/going_on.py)
 
 It installs nothing; `esme` needs Debian's libnet-smpp-perl, and `kannel` its kannel (apt-get install --no-install-recommends kannel libnet-smpp-perl). For
-each check it prints `ok NAME` or `not ok NAME: SEEN`, and at last `N checks, M wrong`; the exit status is 1 if any is wrong. It takes about three minutes, and
-six at most, and ends all that it started. With --keep the folder stays, with the configuration, the stores, the log of `serve` and those of Kannel.
+each check it prints `ok NAME` or `not ok NAME: SEEN`, and at last `N checks, M wrong`; the exit status is 1 if any is wrong. It takes about five minutes, and
+ten at most, and ends all that it started. With --keep the folder stays, with the configuration, the stores, the log of `serve` and those of Kannel.
 """
 import argparse
 import os
@@ -35,7 +35,7 @@ from ports import free_ports
 from restart import Halves
 from serving import ENDED, LINES, LISTENS, Serving
 
-SECONDS = 360
+SECONDS = 600
 # Steps of the journal, after which `serve` ends.
 MOST_ENTRIES = 200_000
 PARTS = ("esme", "kannel", "plain", "restart", "going_on")

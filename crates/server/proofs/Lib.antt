@@ -1,2 +1,2 @@
 mod Crossing
-mod Parts
+mod Begun

@@ -76,17 +76,28 @@ fn live<
         tick_first(&shift);
         start_ticks(&shift, scope);
         feed_first(&shift);
-        for _ in rt.forever() {
-            if shift.is_over() {
-                break;
-            }
-            if station.has_begun.load(Ordering::SeqCst) {
-                start_attendants(&shift, scope);
-            }
-            thread::sleep(rt, Duration::from_millis(PAUSE));
-        }
+        attend_all(&shift, scope);
         end_life(&shift);
     });
+}
+
+/// Has sessions served that nobody serves yet, once the node may be served, until the life is over.
+fn attend_all<
+    's,
+    E,
+    S: StableStore + Send + Sync,
+    L: Begins + Send + Sync,
+    R: Threads + Wait + Eprint + Clock + Sync,
+>(shift: &Shift<'s, S, L, R>, scope: &'s Scope<'s, E>) {
+    for _ in shift.rt.forever() {
+        if shift.is_over() {
+            return;
+        }
+        if shift.station.has_begun.load(Ordering::SeqCst) {
+            start_attendants(shift, scope);
+        }
+        thread::sleep(shift.rt, Duration::from_millis(PAUSE));
+    }
 }
 
 /// What may be granted is delivered as the life begins.

@@ -10,7 +10,7 @@ use crate::house::House;
 use crate::seat_pool::SeatPool;
 use crate::serving::Served;
 use crate::shared::Shared;
-use crate::starting::start_node;
+use crate::starting::start_nodes;
 use crate::ticking::milliseconds;
 use node_threads::{Begins, Cluster, Journal, MOST_SEATS, Seat, closed_journals_go_on};
 use stable_store::StableStore;
@@ -72,7 +72,10 @@ fn is_last<S: StableStore, R: Wait>(rt: &R, house: &House, journal: &Journal<S>)
     ensures { result ≡ false → AreSound journal.now.posts }
 {
     house.counters.close_part(journal.len() as u64);
-    house.is_over(rt) || !journal.is_sound()
+    if !journal.is_sound() {
+        return true;
+    }
+    house.is_over(rt)
 }
 
 /// The journal of a part that goes on where another was closed. None if it can't be closed, or there is no memory for it.
@@ -147,9 +150,7 @@ fn run<
     R: Threads + Wait + Eprint + Clock + Sync,
 >(rt: &R, shared: &Shared<S, L>) {
     thread::scope(thread::scope_env(), rt, move |scope| {
-        for station in &shared.house.stations {
-            start_node(rt, scope, shared, station);
-        }
+        start_nodes(rt, scope, shared);
         watch(rt, shared);
     });
 }

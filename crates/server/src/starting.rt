@@ -75,8 +75,21 @@ pub(crate) fn start_writer<'o, O, R: Threads + Wait + Sync>(
 
 // What follows goes on in one part of the journal, or in one life of a node.
 
+/// Starts the thread of each node. If one can't be started, the server ends.
+pub(crate) fn start_nodes<
+    's,
+    E,
+    S: StableStore + Send + Sync,
+    L: Begins + Send + Sync,
+    R: Threads + Wait + Eprint + Clock + Sync,
+>(rt: &'s R, scope: &'s Scope<'s, E>, shared: &'s Shared<S, L>) {
+    for station in &shared.house.stations {
+        start_node(rt, scope, shared, station);
+    }
+}
+
 /// Starts the thread of a node. If none can be started, the server ends.
-pub(crate) fn start_node<
+fn start_node<
     's,
     E,
     S: StableStore + Send + Sync,
