@@ -2,15 +2,15 @@
 #![tactic(auto)]
 
 mod fitting;
+mod frame_queue;
 mod laws;
 mod moments;
-mod frame_queue;
 mod place;
 mod tally;
 
 pub use fitting::without_optional;
+pub use frame_queue::{FrameQueue, MANY_FRAMES, MOST_FRAMES};
 pub use laws::only_what_was_sent_is_answered;
 pub use moments::moment_at;
-pub use frame_queue::{FrameQueue, MANY_FRAMES, MOST_FRAMES};
 pub use place::{Job, Place};
 pub use tally::Tally;

@@ -58,10 +58,7 @@ fn who_writes_waits_only_for_a_frame(rt: HostRuntime) {
 #[test]
 fn no_frame_is_read_while_many_wait(rt: HostRuntime) {
     let mut queue = queue(&rt, rt.alloc());
-    let few = (
-        put_many(&rt, rt.alloc(), &mut queue, 31),
-        queue.has_room(),
-    );
+    let few = (put_many(&rt, rt.alloc(), &mut queue, 31), queue.has_room());
     let many = (put_many(&rt, rt.alloc(), &mut queue, 1), queue.has_room());
     queue.shut();
     let shut = queue.has_room();

@@ -4,9 +4,9 @@
 #[cfg(test)]
 mod fitting;
 #[cfg(test)]
-mod numbers;
-#[cfg(test)]
 mod frame_queues;
+#[cfg(test)]
+mod numbers;
 #[cfg(test)]
 mod places;
 #[cfg(test)]

@@ -56,8 +56,7 @@ module _ {S : Type 0} (stored : S → Stored) (cluster : Cluster) (kept : ℕ �
   one_more packets parts before closed other earlier sound closes sure one =
       let entries = entries_of_all stored cluster kept numbers parts before earlier in
       let behind = reverse (packets_sent entries) ++ packets in
-      let part = closes.part sure behind one.1 in
-      (
+      let part = closes.part sure behind one.1 in (
         parts_go_on cluster kept (ends_of parts before earlier) closes.ends packets entries (entries_in closed) one.0 (record {
           few = part.few;
           nodes = part.nodes;
@@ -67,7 +66,7 @@ module _ {S : Type 0} (stored : S → Stored) (cluster : Cluster) (kept : ℕ �
           sent = part.sent;
         }),
         subst (λ (ps : List Packet). HaveNumbers (numbers_behind closed) ps) (behind_both entries (entries_in closed) packets)
-        (numbers_go_on cluster (numbers_behind before) behind closed closes.register one.1),
+            (numbers_go_on cluster (numbers_behind before) behind closed closes.register one.1),
       )
 
   pub all_are_one : (packets : List Packet) → HaveNumbers numbers packets → (parts : ℕ) (closed : Closed S)

@@ -45,11 +45,11 @@ pub const BIND: &[u8] = b"\0\0\0\x1e\0\0\0\x09\0\0\0\0\0\0\0\x01sme1\0pw1\0\0\x3
 pub const BOUND: &[u8] = b"\0\0\0\x1c\x80\0\0\x09\0\0\0\0\0\0\0\x01CENTRE\0\x02\x10\0\x01\x34";
 
 /// bind_transmitter of the same, whose answer is as long.
-const BIND_TRANSMITTER: &[u8] =
-    b"\0\0\0\x1e\0\0\0\x02\0\0\0\0\0\0\0\x01sme1\0pw1\0\0\x34\0\0\0";
+const BIND_TRANSMITTER: &[u8] = b"\0\0\0\x1e\0\0\0\x02\0\0\0\0\0\0\0\x01sme1\0pw1\0\0\x34\0\0\0";
 
 /// The command and its status behind which a sequence_number stands in a submit_sm, and what stands behind that: from 144 to 155, the text Hi.
 const BEFORE: &[u8] = b"\0\0\0\x29\0\0\0\x04\0\0\0\0";
+
 const BEHIND: &[u8] = b"\0\x01\x01144\0\x01\x01155\0\0\0\0\0\0\0\0\0\0\x02Hi";
 
 /// submit_sm from 144 to 155 with the text Hi and the sequence_number 2.

@@ -3,6 +3,7 @@
 ghost use Rattle.std.specs.Prelude.{◌≡◌};
 ghost use Rattle.node_threads.specs.Actions.{AllBegin};
 ghost use Rattle.node_threads.specs.Openings.{cluster_of, kept_at};
+ghost use Rattle.serve_tests.specs.Beginnings.{defaults_in};
 
 use crate::clients::Client;
 use config::{Config, Own};
@@ -91,13 +92,19 @@ fn settings(rt: &impl Abort, alloc: Global, case: Case) -> Settings {
     }
 }
 
-/// A server that is to begin, and what its node goes by.
+/// A server that is to begin.
 #[derive(Drop)]
 struct Opening<S: StableStore> {
     beginning: Beginning<S>,
     doors: Doors,
     settings: Settings,
-    defaults: Defaults,
+}
+
+/// What the node goes by.
+fn defaults_of(rt: &impl Abort, config: &Config) -> Defaults
+    ensures { result ≡ defaults_in config.now }
+{
+    Defaults::make(config.first_serial, config.default_validity).expect(rt, "defaults")
 }
 
 /// A server over this store, which listens here.
@@ -109,12 +116,13 @@ fn made<S: StableStore + Drop>(
     case: Case,
 ) -> Opening<S>
     ensures parts { result.beginning.blank.parts ≡ 1000000 }
-    ensures begin { AllBegin (cluster_of result.beginning.nodes.items result.defaults) (kept_at result.beginning.nodes.items result.defaults)
-        result.beginning.nodes.items }
+    ensures begin { AllBegin (cluster_of result.beginning.nodes.items (defaults_in result.settings.config))
+        (kept_at result.beginning.nodes.items (defaults_in result.settings.config)) result.beginning.nodes.items }
 {
     let mut listeners = Vec::new(alloc);
     listeners.push(listener).expect(rt, "memory");
-    let defaults = Defaults::make(case.first_serial, 259200).expect(rt, "defaults");
+    let settings = settings(rt, alloc, case);
+    let defaults = defaults_of(rt, &settings.config);
     let (nodes, lives) = opened(rt, alloc, store, defaults);
     Opening {
         beginning: Beginning {
@@ -122,8 +130,7 @@ fn made<S: StableStore + Drop>(
             nodes,
         },
         doors: Doors { listeners, lives },
-        settings: settings(rt, alloc, case),
-        defaults,
+        settings,
     }
 }
 
@@ -134,22 +141,23 @@ fn finished<S: StableStore + Send + Sync + Drop, R: Threads + Wait + Eprint + Cl
     start: Opening<S>,
 ) -> Ended
     requires parts { start.beginning.blank.parts ≡ 1000000 }
-    requires begin { AllBegin (cluster_of start.beginning.nodes.items start.defaults) (kept_at start.beginning.nodes.items start.defaults)
-        start.beginning.nodes.items }
+    requires begin { AllBegin (cluster_of start.beginning.nodes.items (defaults_in start.settings.config))
+        (kept_at start.beginning.nodes.items (defaults_in start.settings.config)) start.beginning.nodes.items }
 {
     let Opening {
         beginning,
         doors,
         settings,
-        ..
     } = start;
     match serve::<S, Brand, R>(rt, alloc, beginning, doors, settings) {
-        Ok(Served {
-            ending,
-            parts,
-            journal,
-            ..
-        }) => {
+        Ok(
+            Served {
+                ending,
+                parts,
+                journal,
+                ..
+            },
+        ) => {
             assert!(rt; journal.is_some());
             drop(journal);
             Ended { ending, parts }
@@ -177,8 +185,8 @@ pub fn served<
         rt,
         move |scope| -> (Vec<Vec<u8>>, Ended)
             requires { (start.beginning.blank.parts ≡ 1000000)
-                × AllBegin (cluster_of start.beginning.nodes.items start.defaults) (kept_at start.beginning.nodes.items start.defaults)
-                    start.beginning.nodes.items }
+                × AllBegin (cluster_of start.beginning.nodes.items (defaults_in start.settings.config))
+                (kept_at start.beginning.nodes.items (defaults_in start.settings.config)) start.beginning.nodes.items }
         {
             let client = scope.spawn(move || case.client.heard(rt, alloc, address));
             let ended = finished(rt, alloc, start);

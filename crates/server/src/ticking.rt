@@ -161,7 +161,11 @@ fn wait_for_rounds<S: StableStore, L: Begins, R: Wait + Eprint + Clock>(
         }
         thread::sleep(shift.rt, Duration::from_millis(PIECE));
         let now = house.come();
-        vain = if now == come { vain.saturating_add(1) } else { 0 };
+        vain = if now == come {
+            vain.saturating_add(1)
+        } else {
+            0
+        };
         come = now;
         if vain >= VAIN_LOOKS {
             rounds.give_up();

@@ -1,12 +1,12 @@
-use Rattle.node_threads.specs.Defaults.{from_one}
 use Rattle.node_threads.specs.Numbers.{none_sent}
 use Rattle.node_threads.specs.Openings.{cluster_of, kept_at}
-use Rattle.serve_tests.proofs.served.ending.Given as goal
+use Rattle.serve_tests.specs.Beginnings.{defaults_in}
+use Rattle.serve_tests.proofs.served.finished.Given as goal
 
 abbrev pub ghosts-serve-L-Begins : goal.ghosts-serve-L-Begins
 ghosts-serve-L-Begins g a = record {
-  cluster = cluster_of a.beginning.nodes.items (from_one 259200);
-  kept = kept_at a.beginning.nodes.items (from_one 259200);
+  cluster = cluster_of a.beginning.nodes.items (defaults_in a.settings.config);
+  kept = kept_at a.beginning.nodes.items (defaults_in a.settings.config);
   numbers = none_sent;
 }
 
