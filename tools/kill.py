@@ -1,12 +1,12 @@
 #!/usr/bin/env python3
 """Kills `centre serve` at random moments under load, again and again, and looks whether all that its clients were told stays true.
 
-    python3 tools/kill.py PROGRAM [--kills N] [--a-store N] [--seed N] [--first N] [--keep]
+    python3 tools/kill.py PROGRAM [--kills N] [--a-store N] [--seconds N] [--seed N] [--first N] [--keep]
 
 PROGRAM is the built program. It serves three nodes over files; at each node a client submits messages (with a receipt and without, for now and for later, to an
 account that answers and to one that has no session), queries and cancels them, and another gets deliver_sm and answers them in all ways. `serve` is killed by
-SIGKILL, N times in all (200), four of five times under load and else while it starts, and is started again over the same stores, which are fresh after each
---a-store kills (10): a start asks for every message that ever was. After each start every message that was answered ESME_ROK, or told by a receipt, is queried
+SIGKILL, N times in all (200), four of five times under load, after --seconds (1.5) at most, and else in its first second, and is started again over the same
+stores, which are fresh after each --a-store kills (10): a start asks for every message that ever was. After each start every message that was answered ESME_ROK, or told by a receipt, is queried
 at one of the nodes, and after the last one of a store at each of them. What must hold, of all that clients read in all lives of a store:
 
     known      a query_sm of such a message is answered ESME_ROK, and no two submit_sm have one message_id
@@ -36,8 +36,8 @@ from plain_esme import Ended, Esme
 
 NODES = 3
 WINDOW = 8
-# How many messages are submitted between two kills at most, and how long the load lasts at most.
-MOST_SUBMITS, MOST_SECONDS = 60, 1.5
+# How many messages are submitted between two kills at most.
+MOST_SUBMITS = 60
 # How long the queries after a start may take, and those of the last start.
 CHECK_SECONDS = 120
 ACCOUNTS = {"sender": "9", "getter": "1", "absent": "2"}
@@ -225,9 +225,9 @@ def serve_ready(esmes, seconds):
 class Store:
     """The lives of `serve` over one set of stores."""
 
-    def __init__(self, number, seed, serving, ports):
-        self.number, self.serving, self.ports = number, serving, ports
-        self.random, self.life, self.slowest = random.Random(f"{seed} {number}"), 0, 0.0
+    def __init__(self, number, given, serving, ports):
+        self.number, self.seconds, self.serving, self.ports = number, given.seconds, serving, ports
+        self.random, self.life, self.slowest = random.Random(f"{given.seed} {number}"), 0, 0.0
         self.told = Told(lambda: f"store {self.number}, kill {self.life}")
         self.told.before_end = self.read_deliveries
         self.senders, self.getters = [], []
@@ -288,7 +288,7 @@ class Store:
         """Loads it until it is killed, and reads what was on its way then."""
         for sender in self.senders:
             sender.is_free, sender.left = True, MOST_SUBMITS // NODES
-        timer = threading.Timer(self.random.uniform(0.02, MOST_SECONDS), self.serving.process.kill)
+        timer = threading.Timer(self.random.uniform(0.02, self.seconds), self.serving.process.kill)
         timer.start()
         try:
             while serve_ready(self.senders + self.getters, 0.05):
@@ -335,9 +335,10 @@ class Store:
         return f"store {self.number}: {len(self.told.ends)} messages ({shown}), slowest start {self.slowest:.1f} s, {entries} steps in the last life"
 
 
-def play_store(program, number, seed, kills, keep):
-    with centre(program, NODES, ACCOUNTS, keep, idle_seconds=120, write_seconds=10) as (serving, ports):
-        store = Store(number, seed, serving, ports)
+def play_store(program, number, given, kills):
+    """What was told of the messages of a store, and how many have which state at the end."""
+    with centre(program, NODES, ACCOUNTS, given.keep, idle_seconds=120, write_seconds=10) as (serving, ports):
+        store = Store(number, given, serving, ports)
         try:
             store.play(kills)
         except (Ended, OSError, ValueError, KeyError) as fault:
@@ -353,6 +354,7 @@ def main():
     reader.add_argument("program", metavar="PROGRAM")
     reader.add_argument("--kills", type=int, default=200)
     reader.add_argument("--a-store", type=int, default=10)
+    reader.add_argument("--seconds", type=float, default=1.5)
     reader.add_argument("--seed", type=int, default=random.randrange(1_000_000))
     reader.add_argument("--first", type=int, default=1)
     reader.add_argument("--keep", action="store_true")
@@ -362,7 +364,7 @@ def main():
     counts, states, faults, number, left = collections.Counter(), collections.Counter(), [], given.first, given.kills
     while left > 0:
         kills = min(left, given.a_store)
-        told, ended = play_store(program, number, given.seed, kills, given.keep)
+        told, ended = play_store(program, number, given, kills)
         counts, states, faults = counts + told.counts, states + ended, faults + told.faults
         number, left = number + 1, left - kills
     for name, count in sorted(counts.items()):
