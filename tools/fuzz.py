@@ -29,11 +29,13 @@ import sys
 import threading
 import time
 
-sys.path.insert(0, str(pathlib.Path(__file__).resolve().parent / "clients"))
+TOOLS = pathlib.Path(__file__).resolve().parent
+sys.path[:0] = [str(TOOLS), str(TOOLS / "clients")]
 
 import pdus
 from answers import Stream, check_body, parsed
 from centres import PASSWORD, centre, octets_of, program_of, started
+from chart_pdus import is_response, name_of
 from mutants import Mutants
 from plain_esme import Ended, Esme
 from script_grammar import is_good_line, spoiled
@@ -60,7 +62,7 @@ class Script:
         self.mutants, self.ids = Mutants(self.random, binds, ids), ids
         self.sessions = self.random.choice((3, 20, 98))
         self.moment, self.lines, self.steps, self.bad = FIRST_MOMENT, [f"nodes {self.nodes}"], [], None
-        self.streams, self.is_restart = collections.defaultdict(Stream), False
+        self.streams, self.is_restart, self.told = collections.defaultdict(Stream), False, collections.Counter()
 
     def made(self):
         """Writes its lines."""
@@ -159,6 +161,7 @@ class Script:
         words = line.split(" ")
         if words[0] == "pdu" and len(words) == 4:
             pdu = parsed(bytes.fromhex(words[3]))
+            self.told[kind_of(pdu)] += 1
             if pdu.command != pdus.DELIVER_SM:
                 self.streams[int(words[1]), int(words[2])].told(pdu)
         elif words[0] == "gone" and len(words) == 3:
@@ -184,29 +187,36 @@ class Script:
                 raise ValueError(late)
 
 
+def kind_of(pdu):
+    """The name of a PDU, with its command_status if it answers something."""
+    name = "generic_nack" if pdu.command == pdus.GENERIC_NACK else name_of(pdu)
+    return f"{name} 0x{pdu.status:02x}" if is_response(pdu) else name
+
+
 def run_script(work):
-    """What is wrong with a script, or None; its number, and how many inputs it had."""
+    """The number of a script, what is wrong with it, or None, how many inputs it had, and what was told."""
     program, seed, number, keep = work
     script = Script(seed, number).made()
     fault = script.fault(program)
     if fault and keep:
         (pathlib.Path(keep) / f"fuzz-{seed}-{number}.script").write_bytes(script.octets())
-    return number, fault, A_SCRIPT if script.bad is None else len(script.steps)
+    return number, fault, A_SCRIPT if script.bad is None else len(script.steps), script.told
 
 
 def run_scripts(program, given):
     """Runs the scripts, and gives how many failed."""
-    begun, done, scripts, wrong = time.monotonic(), 0, 0, 0
+    begun, done, scripts, wrong, all_told = time.monotonic(), 0, 0, 0, collections.Counter()
     last = given.first + -(-given.count // A_SCRIPT)
     works = ((program, given.seed, number, given.keep) for number in range(given.first, last))
     with multiprocessing.Pool(given.jobs, signal.signal, (signal.SIGINT, signal.SIG_IGN)) as pool:
-        for number, fault, inputs in pool.imap_unordered(run_script, works):
-            done, scripts = done + inputs, scripts + 1
+        for number, fault, inputs, told in pool.imap_unordered(run_script, works):
+            done, scripts, all_told = done + inputs, scripts + 1, all_told + told
             if fault:
                 wrong += 1
                 print(f"not ok script {number} of seed {given.seed}: {fault}", flush=True)
             if scripts % 100 == 0:
                 print(f"   {done:,} inputs in {time.monotonic() - begun:.0f} s", flush=True)
+    print(f"   told: {', '.join(f'{count:,} {kind}' for kind, count in all_told.most_common())}")
     print(f"scripts: {done:,} inputs in {scripts:,} scripts, seed {given.seed}, {time.monotonic() - begun:.0f} s: {wrong} wrong", flush=True)
     return wrong
 

@@ -9,10 +9,13 @@ all nodes, and none of its answers may be wrong, or take longer than two seconds
     resets        a session that binds, submits, queries, gets its message and answers it is reset after each of its octets, and closed after each
     slow          twenty peers bind and submit by an octet a second, beside all other parts
     deaf          a receiver takes its messages and its answers no more; the centre ends it, and another session gets all that it did not answer
+    large         messages of the most octets: what memory each takes, since the journal keeps its packets
     flood         5,000 submit_sm in one go: answers are read afterwards, each once; then again, and never read
     endless       wrong lengths, among them 0xffffffff with octets that never end; and PDUs of 8,192 octets of which the last never comes
     thousand      a thousand connections to one node
     bound         as many bound transceivers as a node has room for
+    churn         3,000 connections one after another, each reset at once, and 300 that bind first
+    files         as many connections as the process has files for, while sessions that stand go on
 
 It prints `ok NAME` or `not ok NAME: SEEN` for each check, figures in lines that begin with spaces, and at last `N checks, M wrong`; the exit status is 1 if any is
 wrong. What the peers were told is taken is queried at the end at all nodes, and once more after a kill and a start. It takes some four minutes, uses the
@@ -20,8 +23,10 @@ standard library alone, and ends what it started.
 """
 import argparse
 import contextlib
+import os
 import pathlib
 import random
+import resource
 import socket
 import struct
 import sys
@@ -41,9 +46,10 @@ BIND_SECONDS, WRITE_SECONDS, MOST_SESSIONS = 60, 5, 99
 ACCOUNTS = {NAME: DESTINATION, "peer": "1", "deaf": "2", "slow": "3", "flood": "4"}
 # How long an answer to others may take.
 PATIENCE = 2
-SLOW_PEERS, FLOODED, CONNECTIONS, DEAF_MESSAGES = 20, 5_000, 1_000, 40
-# What a peer may push into the centre and its own system's buffers before it has to wait, and what the centre may grow by in a part.
-MOST_PUSHED, MOST_GROWN = 64_000_000, 64_000_000
+SLOW_PEERS, FLOODED, CONNECTIONS, DEAF_MESSAGES, LARGE_MESSAGES = 20, 5_000, 1_000, 40, 100
+# What a peer may push into the centre and its own system's buffers before it has to wait; what the centre may grow by for each connection that is open, of
+# which each thread may take an area of memory of its own, and for what does not grow with connections.
+MOST_PUSHED, MOST_A_CONNECTION, MOST_GROWN = 64_000_000, 4_000_000, 64_000_000
 LENGTHS = (*range(16), 8_193, 0x7FFFFFFF, 0xFFFFFFFF)
 
 
@@ -101,7 +107,8 @@ class Rough:
         now = self.memory()
         share = f", {(now - before) / count / 1024:.0f} KiB each" if count else ""
         print(f"   {name}: {before / 1e6:.1f} MB before, {now / 1e6:.1f} MB then{share}", flush=True)
-        self.check(f"memory_{name.replace(' ', '_')}", now - before < MOST_GROWN, (before, now))
+        self.check(f"memory_{name.replace(' ', '_')}", now - before < MOST_GROWN + count * MOST_A_CONNECTION, (before, now))
+        return now
 
     def connected(self, node=1, **given):
         return self.stack.enter_context(Esme(self.ports[node - 1], **given))
@@ -274,14 +281,29 @@ class Rough:
             other.sendall(octets)
 
     def never_read(self, before):
+        """Its answers may all be in the buffers of the system, so that no write waits; it is reset then."""
         esme = self.bound("flood", 1, pdus.BIND_TRANSMITTER, receive_buffer=4096)
         octets = b"".join(esme.framed(pdus.SUBMIT_SM, submit_body(b"unread", "455")) for _ in range(FLOODED))
-        pushed, is_ended = self.push(esme, octets)
-        self.told("with a flood that is never read", before)
-        print(f"   a flood of submit_sm that is never read pushed {pushed / 1e6:.1f} MB", flush=True)
-        self.check("flood_has_to_wait", is_ended or pushed < MOST_PUSHED, pushed)
-        self.check("flood_is_ended", is_ended or self.is_cut(esme, WRITE_SECONDS + 30), "it is still connected")
+        pusher = threading.Thread(target=self.push_all, args=(esme, octets), daemon=True)
+        pusher.start()
         self.binds_in_time("beside_a_flood", 1, 2)
+        pusher.join(15)
+        self.check("flood_is_pushed", not pusher.is_alive(), "it still waits")
+        self.told("with a flood that is never read", before)
+        esme.vanish()
+        self.binds_in_time("after_a_flood", 1, 2)
+
+    # What is large.
+
+    def large(self):
+        """A message with 254 octets and 6,900 of optional parameters, again and again."""
+        before, sender = self.memory(), self.bound("peer", 1, pdus.BIND_TRANSMITTER)
+        parameters = [(pdus.USER_MESSAGE_REFERENCE, bytes(6_900))]
+        ids = [sender.submitted("455", b"x" * 254, parameters) for _ in range(LARGE_MESSAGES)]
+        self.check("large_ones_are_taken", all(ids), ids)
+        self.taken += ids
+        self.told("with large messages", before, len(ids))
+        sender.close()
 
     # PDUs without an end.
 
@@ -311,6 +333,12 @@ class Rough:
     # Many connections.
 
     def thousand(self):
+        """Twice, since what the first took once is there for the second."""
+        first = self.thousand_at_once("a thousand connections")
+        self.thousand_at_once("a thousand more")
+        self.check("a_thousand_more_take_no_more", self.memory() < first + MOST_GROWN, (first, self.memory()))
+
+    def thousand_at_once(self, name):
         before, kept, refused = self.memory(), [], 0
         for _ in range(CONNECTIONS):
             with contextlib.suppress(OSError):
@@ -321,13 +349,13 @@ class Rough:
         served = len(kept) - refused
         print(f"   of {len(kept):,} connections {served} were kept", flush=True)
         self.check("places_of_a_node", 0 < served < MOST_SESSIONS, served)
-        self.told("with a thousand connections", before, served)
-        self.binds_in_time("beside_a_thousand", 1, 2)
+        most = self.told(f"with {name}", before, served)
+        self.binds_in_time(f"beside_{name.replace(' ', '_')}", 1, 2)
         for esme in kept:
             esme.vanish()
         time.sleep(1)
-        self.binds_in_time("after_a_thousand", 3)
-        self.told("after a thousand connections", before)
+        self.binds_in_time(f"after_{name.replace(' ', '_')}", 3)
+        return most
 
     def is_refused(self, esme):
         """Whether the centre has closed it."""
@@ -347,6 +375,38 @@ class Rough:
         time.sleep(2)
         self.told("after bound transceivers", before)
         self.binds_in_time("after_bound_ones", 1)
+
+    # Many one after another, and more than there are files for.
+
+    def churn(self):
+        for name, count, is_bound in (("warm", 300, False), ("connections", 3_000, False), ("binds", 300, True)):
+            before = self.memory()
+            for _ in range(count):
+                with contextlib.suppress(Ended), Esme(self.ports[2]) as esme:
+                    if is_bound:
+                        esme.bind("peer", PASSWORD)
+                    esme.vanish()
+            time.sleep(3)
+            print(f"   {count:,} {name} one after another: {(self.memory() - before) / count / 1024:.1f} KiB each are not given back", flush=True)
+            self.check(f"churn_of_{name}", self.memory() - before < MOST_GROWN, (before, self.memory()))
+        self.binds_in_time("after_a_churn", 3)
+
+    def files(self):
+        """The process may open no more files: connections wait or are closed, and whoever is bound goes on."""
+        process = self.serving.process.pid
+        most = resource.prlimit(process, resource.RLIMIT_NOFILE)
+        kept = [self.connected(1)]
+        time.sleep(1)
+        resource.prlimit(process, resource.RLIMIT_NOFILE, (max(map(int, os.listdir(f"/proc/{process}/fd"))) + 2, most[1]))
+        kept += [self.connected(node) for node in (1, 2, 3) for _ in range(10)]
+        time.sleep(3)
+        found = kept[0].ask(pdus.ENQUIRE_LINK)
+        self.check("session_goes_on_without_files", found and found.status == pdus.OK, found)
+        resource.prlimit(process, resource.RLIMIT_NOFILE, most)
+        for esme in kept:
+            esme.vanish()
+        time.sleep(1)
+        self.binds_in_time("after_no_files", 1, 2, 3)
 
     # What was taken.
 
@@ -398,7 +458,7 @@ class Rough:
 
 
 PARTS = {"slow": Rough.slow, "deaf": Rough.deaf, "resets": Rough.resets, "flood": Rough.flood, "endless": Rough.endless, "thousand": Rough.thousand,
-         "bound": Rough.bound_ones, "slow_ends": Rough.slow_ends, "deaf_ends": Rough.deaf_ends}
+         "bound": Rough.bound_ones, "churn": Rough.churn, "files": Rough.files, "large": Rough.large, "slow_ends": Rough.slow_ends, "deaf_ends": Rough.deaf_ends}
 
 
 def parts_of(only):
