@@ -45,6 +45,8 @@ A_SCRIPT, A_ROUND = 2_000, 4_000
 SCRIPT_SECONDS, MARKER_SECONDS, LAST_SECONDS, PATIENCE = 300, 10, 45, 5
 FIRST_MOMENT = 946_684_800
 MARKER_SESSION = 99
+# As many as a line has room for.
+MOST_OCTETS = 9_990
 MARKER = pdus.HEADER.pack(16, pdus.ENQUIRE_LINK, 0, 0)[:12]
 MARKED = "pdu 1 99 " + pdus.HEADER.pack(16, pdus.ENQUIRE_LINK | pdus.RESPONSE, 0, 0)[:12].hex()
 MARKED_LENGTH = len(MARKED) + 8
@@ -87,7 +89,7 @@ class Script:
 
     def add_input(self):
         key = (self.random.randint(1, self.nodes), self.random.randint(1, self.sessions))
-        octets = self.mutants.next()
+        octets = self.mutants.next()[:MOST_OCTETS]
         self.add(f"pdu {key[0]} {key[1]} {octets.hex()}", (key, octets))
         # A long PDU that does not come would swallow many inputs.
         if self.random.random() < 0.02:
@@ -113,7 +115,8 @@ class Script:
         if not is_good_line(line, self.nodes):
             self.bad = place + 1
             self.lines[place] = line
-            del self.steps[place // 2:]
+            # The step whose line it is, or whose marker.
+            del self.steps[(place - 1) // 2:]
 
     def octets(self):
         return b"".join((line if isinstance(line, bytes) else line.encode()) + b"\n" for line in self.lines)
@@ -200,7 +203,7 @@ def run_script(work):
     fault = script.fault(program)
     if fault and keep:
         (pathlib.Path(keep) / f"fuzz-{seed}-{number}.script").write_bytes(script.octets())
-    return number, fault, A_SCRIPT if script.bad is None else len(script.steps), script.told
+    return number, fault, sum(1 for _, heard in script.steps if heard), script.told
 
 
 def run_scripts(program, given):

@@ -67,6 +67,16 @@ def ends_by_reset(esme):
         esme.vanish()
 
 
+class Holder(Esme):
+    """It answers all that is delivered to it, but for the message with its own text."""
+
+    text = b""
+
+    def serve(self, pdu):
+        self.status = None if pdu.command == pdus.DELIVER_SM and self.text in pdu.body and b"id:" not in pdu.body else pdus.OK
+        super().serve(pdu)
+
+
 class Slow(threading.Thread):
     """A peer that sends an octet a second."""
 
@@ -146,9 +156,9 @@ class Rough:
 
     def cut_session(self, place, end):
         """Plays a session up to so many octets, and ends it: the id that was told, "" if it was not told yet, or None if it did not go on as it should."""
-        text, message_id, left = b"cut %d" % random.randrange(10**6), "", place
-        esme = Esme(self.ports[0])
-        esme.status = None
+        text, message_id, left = b"cut %08d" % random.randrange(10**8), "", place
+        esme = Holder(self.ports[0])
+        esme.text = text
         try:
             for step in range(4):
                 piece = self.pieces(text, self.sequence_of(esme, text))[step] if step != 2 else self.query(message_id)
