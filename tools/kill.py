@@ -136,7 +136,7 @@ class Sender(Client):
 
     def do_something(self):
         known = list(self.told.ends)
-        action = self.random.choices(("submit", "query", "cancel"), (5 if self.left else 0, 2, 2))[0] if known else "submit"
+        action = self.random.choices(("submit", "query", "cancel"), (8 if self.left else 0, 4, 1))[0] if known else "submit"
         if action == "submit":
             self.left -= 1
             self.submit_one()
