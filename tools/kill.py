@@ -38,8 +38,8 @@ NODES = 3
 WINDOW = 8
 # How many messages are submitted between two kills at most.
 MOST_SUBMITS = 60
-# How long the queries after a start may take, and those of the last start.
-CHECK_SECONDS = 120
+# How long the queries after a start may take, and an orderly end.
+CHECK_SECONDS, END_SECONDS = 120, 60
 ACCOUNTS = {"sender": "9", "getter": "1", "absent": "2"}
 # What the text of a message asks of who gets it.
 WISHES = {"ok": pdus.OK, "permanent": pdus.PERMANENT_ERROR, "refused": pdus.REJECTED_BY_APPLICATION, "failing": 0x64, "silent": None}
@@ -324,7 +324,7 @@ class Store:
         self.start()
         self.check(True)
         self.close()
-        status = self.serving.end()
+        status = self.serving.end(END_SECONDS)
         if status != 0:
             self.told.fault(f"it did not end in order: {self.serving.said()}")
 

@@ -44,8 +44,8 @@ from steady import DESTINATION, NAME, Steady
 NODES = 3
 BIND_SECONDS, WRITE_SECONDS, MOST_SESSIONS = 60, 5, 99
 ACCOUNTS = {NAME: DESTINATION, "peer": "1", "deaf": "2", "slow": "3", "flood": "4"}
-# How long an answer to others may take.
-PATIENCE = 2
+# How long an answer to others may take, and how long an orderly end.
+PATIENCE, END_SECONDS = 2, 60
 SLOW_PEERS, FLOODED, CONNECTIONS, DEAF_MESSAGES, LARGE_MESSAGES = 20, 5_000, 1_000, 40, 100
 # What a peer may push into the centre and its own system's buffers before it has to wait; what the centre may grow by for each connection that is open, of
 # which each thread may take an area of memory of its own, and for what does not grow with connections.
@@ -464,7 +464,9 @@ class Rough:
         self.serving.kill()
         started(self.serving)
         self.nothing_lost("after_a_kill")
-        self.check("ends_in_order", self.serving.end() == 0, self.serving.said)
+        begun = time.monotonic()
+        self.check("ends_in_order", self.serving.end(END_SECONDS) == 0, self.serving.said)
+        print(f"   it ended in {time.monotonic() - begun:.1f} s", flush=True)
 
 
 PARTS = {"slow": Rough.slow, "deaf": Rough.deaf, "resets": Rough.resets, "flood": Rough.flood, "endless": Rough.endless, "thousand": Rough.thousand,
