@@ -311,6 +311,10 @@ class Session:
                 raise ValueError(f"no answer to a marker within {MARKER_SECONDS} seconds")
             if peer.stream.is_lost or (late := peer.stream.late()):
                 raise ValueError("it goes on behind a wrong length" if peer.stream.is_lost else late)
+        if self.random.random() < 0.4:
+            # What it is owed then is told to nobody, and least of all to the next session that has its number.
+            self.send(peer, b"".join(self.mutants.well() for _ in range(8)))
+            return
         if not peer.wait_for(lambda: not peer.stream.owed, LAST_SECONDS):
             raise ValueError(f"never answered: {[one.pdu for one in peer.stream.owed][:3]}")
 
