@@ -3,19 +3,19 @@
 
     python3 tools/fuzz.py PROGRAM [--count N] [--tcp N] [--seed N] [--first N] [--jobs N] [--keep FOLDER]
 
-Inputs are drawn from good PDUs (those of the worked scripts, and others): whole, cut, with octets replaced, put in or taken out, with lengths that lie, with
-optional parameters that lie, joined, or by chance (clients/mutants.py). A piece that one kind gives is one input.
+Inputs are drawn from good PDUs (those of the worked scripts, and others): whole, cut, with octets replaced, put in or taken out, with lengths that lie,
+with optional parameters that lie, joined, or by chance (clients/mutants.py). A piece that one kind gives is one input.
 
-Scripts: --count inputs (1,000,000) in scripts of 2,000 each over one node or three, on many sessions, with settles, ticks, grants and restarts between; in one of
-ten scripts a line is bad. Behind each line an enquire_link on a session of its own marks what the line wrote. What must hold: status 0 and nothing on standard
-error, or at a bad line status 2 and `bad line K`; each PDU that is written is a good one; each request is answered exactly once, by its response or a
-generic_nack with its sequence_number, unless its session is gone; a session is gone after an unbind and a wrong length, and else not.
+Scripts: --count inputs (1,000,000) in scripts of 2,000 each over one node or three, on many sessions, with settles, ticks, grants and restarts between; in one
+of ten scripts a line is bad. Behind each line an enquire_link on a session of its own marks what the line wrote. What must hold: status 0 and nothing on
+standard error, or at a bad line status 2 and `bad line K`; each PDU that is written is a good one; each request is answered exactly once, by its response or
+a generic_nack with its sequence_number, unless its session is gone; a session is gone after an unbind and a wrong length, and else not.
 
-TCP: --tcp inputs (20,000) in sessions of some 40 bursts at two nodes, three sessions at a time, with fresh stores after each 4,000; what must hold is the same, a
-marker is answered within 10 seconds, and a client of its own process (clients/steady.py) sees only right answers meanwhile.
+TCP: --tcp inputs (20,000) in sessions of some 40 bursts at two nodes, three sessions at a time, with fresh stores after each 4,000; what must hold is the
+same, a marker is answered within 10 seconds, and a client of its own process (clients/steady.py) sees only right answers meanwhile.
 
-Script or session K draws all its choices from the seed and K: `--seed SEED --first K --count 2000 --tcp 0` plays script K again. A script that fails is written to
---keep. The exit status is 1 if anything failed. It uses the standard library alone, and ends what it started.
+Script or session K draws all its choices from the seed and K: `--seed SEED --first K --count 2000 --tcp 0` plays script K again. A script that fails is written
+to --keep. The exit status is 1 if anything failed. It uses the standard library alone, and ends what it started.
 """
 import argparse
 import collections

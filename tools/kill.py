@@ -5,9 +5,10 @@
 
 PROGRAM is the built program. It serves three nodes over files; at each node a client submits messages (with a receipt and without, for now and for later, to an
 account that answers and to one that has no session), queries and cancels them, and another gets deliver_sm and answers them in all ways. `serve` is killed by
-SIGKILL, N times in all (200), four of five times under load, after --seconds (1.5) at most, and else in its first second, and is started again over the same
-stores, which are fresh after each --a-store kills (10): a start asks for every message that ever was. After each start every message that was answered ESME_ROK, or told by a receipt, is queried
-at one of the nodes, and after the last one of a store at each of them. What must hold, of all that clients read in all lives of a store:
+SIGKILL, N times in all (200): four of five times under load, after --seconds (1.5) at most, and else in its first second. It is started again over the same
+stores, which are fresh after each --a-store kills (10), since a start asks for every message that ever was. After each start every message that was answered
+ESME_ROK, or told by a receipt, is queried at one of the nodes, and after the last one of a store at each of them.
+What must hold, of all that clients read in all lives of a store:
 
     known      a query_sm of such a message is answered ESME_ROK, and no two submit_sm have one message_id
     one end    whoever tells the end of a message (query_sm_resp, a cancel_sm_resp with ESME_ROK, a receipt) tells the same state, error and moment as before

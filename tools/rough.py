@@ -3,8 +3,8 @@
 
     python3 tools/rough.py PROGRAM [--only PART] [--keep]
 
-PROGRAM is the built program. It serves three nodes over files. Meanwhile a client of its own process (clients/steady.py) submits, queries and gets its messages at
-all nodes, and none of its answers may be wrong, or take longer than two seconds. The parts:
+PROGRAM is the built program. It serves three nodes over files. Meanwhile a client of its own process (clients/steady.py) submits, queries and gets its
+messages at all nodes, and none of its answers may be wrong, or take longer than two seconds. The parts:
 
     resets        a session that binds, submits, queries, gets its message and answers it is reset after each of its octets, and closed after each
     slow          twenty peers bind and submit by an octet a second, beside all other parts
@@ -17,9 +17,9 @@ all nodes, and none of its answers may be wrong, or take longer than two seconds
     churn         3,000 connections one after another, each reset at once, and 300 that bind first
     files         as many connections as the process has files for, while sessions that stand go on
 
-It prints `ok NAME` or `not ok NAME: SEEN` for each check, figures in lines that begin with spaces, and at last `N checks, M wrong`; the exit status is 1 if any is
-wrong. What the peers were told is taken is queried at the end at all nodes, and once more after a kill and a start. It takes some four minutes, uses the
-standard library alone, and ends what it started.
+It prints `ok NAME` or `not ok NAME: SEEN` for each check, figures in lines that begin with spaces, and at last `N checks, M wrong`; the exit status is 1 if
+any is wrong. What the peers were told is taken is queried at the end, and once more after a kill and a start. It takes some four minutes, uses the standard
+library alone, and ends what it started.
 """
 import argparse
 import contextlib
@@ -470,7 +470,8 @@ class Rough:
 
 
 PARTS = {"slow": Rough.slow, "deaf": Rough.deaf, "resets": Rough.resets, "flood": Rough.flood, "endless": Rough.endless, "thousand": Rough.thousand,
-         "bound": Rough.bound_ones, "churn": Rough.churn, "files": Rough.files, "large": Rough.large, "slow_ends": Rough.slow_ends, "deaf_ends": Rough.deaf_ends}
+         "bound": Rough.bound_ones, "churn": Rough.churn, "files": Rough.files, "large": Rough.large, "slow_ends": Rough.slow_ends,
+         "deaf_ends": Rough.deaf_ends}
 
 
 def parts_of(only):

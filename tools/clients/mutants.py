@@ -13,6 +13,7 @@ ROWS = TOP / "crates" / "centre" / "data" / "rows"
 ODD_OCTETS = (0x00, 0x7F, 0x80, 0xFF)
 ODD_LENGTHS = (0, 1, 15, 16, 17, 8_191, 8_192, 8_193, 0x7FFFFFFF, 0x80000000, 0xFFFFFFFF)
 COMMANDS = (0, 1, 2, 3, 4, 5, 6, 7, 8, 9, 0x0B, 0x15, 0x21, 0x102, 0x103)
+BINDS = (pdus.BIND_TRANSCEIVER, pdus.BIND_TRANSCEIVER, pdus.BIND_TRANSMITTER, pdus.BIND_RECEIVER)
 TAGS = (0x0204, 0x020C, 0x020E, 0x020F, 0x001E, 0x0424, 0x0427, 0)
 ADDRESSES = ("", "144", "155", "255", "1" * 20, "1" * 21, "2" * 21)
 TIMES = ("", "000000000100000R", "991231235959948+", "010230000000000+", "000000000000000R", "0000000001000000R", "x")
@@ -56,7 +57,7 @@ class Mutants:
         choices = self.choices
         match choices.randrange(8):
             case 0:
-                return self.frame(choices.choice((pdus.BIND_TRANSCEIVER, pdus.BIND_TRANSCEIVER, pdus.BIND_TRANSMITTER, pdus.BIND_RECEIVER)), choices.choice(self.binds))
+                return self.frame(choices.choice(BINDS), choices.choice(self.binds))
             case 1:
                 return self.frame(pdus.QUERY_SM, pdus.query_body(choices.choice(self.ids), choices.choice(("144", "144", "155"))))
             case 2:
@@ -64,7 +65,8 @@ class Mutants:
             case 3:
                 fields = {"schedule": choices.choice(TIMES), "validity": choices.choice(TIMES)} if choices.random() < 0.3 else {}
                 text = choices.randbytes(choices.choice((0, 1, 2, 140, 254, 255)))
-                return self.frame(pdus.SUBMIT_SM, pdus.message_body(text, source="144", destination=choices.choice(ADDRESSES), registered=choices.randrange(4), **fields))
+                fields |= {"destination": choices.choice(ADDRESSES), "registered": choices.randrange(4)}
+                return self.frame(pdus.SUBMIT_SM, pdus.message_body(text, source="144", **fields))
             case 4:
                 return self.frame(pdus.ENQUIRE_LINK, b"")
             case 5:
