@@ -226,13 +226,14 @@ class Rough:
         self.check("deaf_one_is_ended", is_ended or self.is_cut(deaf, WRITE_SECONDS + 30), "it is still connected")
         self.binds_in_time("beside_a_deaf_one", 2, 3)
         self.told("after a deaf receiver", before)
-        self.heir = self.bound("deaf", 3)
 
     def deaf_ends(self):
         """Another session of the account gets all; the second attempts are due a minute after the first."""
-        wait([self.heir], lambda: len({one["short_message"] for one in self.heir.messages()}) == DEAF_MESSAGES, 100)
-        came = len({one["short_message"] for one in self.heir.messages()})
+        heir = self.bound("deaf", 3)
+        wait([heir], lambda: len({one["short_message"] for one in heir.messages()}) == DEAF_MESSAGES, 100)
+        came = len({one["short_message"] for one in heir.messages()})
         self.check("messages_of_a_deaf_one_come", came == DEAF_MESSAGES, came)
+        heir.close()
 
     def push(self, esme, octets):
         """Sends these octets again and again without reading: how many could be sent until it had to wait for two seconds, and whether the connection ended."""
