@@ -14,7 +14,7 @@ from serving import Serving
 
 PASSWORD = "secret"
 # A node accepts connections once it has had its first rounds, for which it waits so long at most.
-START_SECONDS = 90
+START_SECONDS = 180
 
 
 def configuration(folder, ports, accounts, own):
