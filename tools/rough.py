@@ -47,6 +47,8 @@ ACCOUNTS = {NAME: DESTINATION, "peer": "1", "deaf": "2", "slow": "3", "flood": "
 # How long an answer to others may take, and how long an orderly end.
 PATIENCE, END_SECONDS = 2, 60
 SLOW_PEERS, FLOODED, CONNECTIONS, DEAF_MESSAGES, LARGE_MESSAGES = 20, 5_000, 1_000, 40, 100
+# Within what time a peer that reads nothing is ended: the buffers of the system are full by then, and a write has waited for too long.
+CUT_SECONDS = 150
 # What a peer may push into the centre and its own system's buffers before it has to wait; what the centre may grow by for each connection that is open, of
 # which each thread may take an area of memory of its own, and for what does not grow with connections.
 MOST_PUSHED, MOST_A_CONNECTION, MOST_GROWN = 64_000_000, 4_000_000, 64_000_000
@@ -223,7 +225,9 @@ class Rough:
         self.told("with a deaf receiver that asks", before)
         print(f"   a deaf receiver pushed {pushed / 1e6:.1f} MB", flush=True)
         self.check("deaf_one_has_to_wait", is_ended or pushed < MOST_PUSHED, pushed)
-        self.check("deaf_one_is_ended", is_ended or self.is_cut(deaf, WRITE_SECONDS + 30), "it is still connected")
+        begun = time.monotonic()
+        self.check("deaf_one_is_ended", is_ended or self.is_cut(deaf, CUT_SECONDS), "it is still connected")
+        print(f"   it was ended {time.monotonic() - begun:.0f} s after its last octet was taken", flush=True)
         self.binds_in_time("beside_a_deaf_one", 2, 3)
         self.told("after a deaf receiver", before)
 
@@ -356,14 +360,18 @@ class Rough:
                 kept.append(self.connected(3))
         time.sleep(2)
         for esme in kept:
-            refused += self.is_refused(esme)
+            if self.is_refused(esme):
+                refused += 1
+                # So that those who come later have files below 1,024, as `select` wants them.
+                esme.close()
         served = len(kept) - refused
         print(f"   of {len(kept):,} connections {served} were kept", flush=True)
         self.check("places_of_a_node", 0 < served < MOST_SESSIONS, served)
         most = self.told(f"with {name}", before, served)
         self.binds_in_time(f"beside_{name.replace(' ', '_')}", 1, 2)
         for esme in kept:
-            esme.vanish()
+            if not esme.is_ended:
+                esme.vanish()
         time.sleep(1)
         self.binds_in_time(f"after_{name.replace(' ', '_')}", 3)
         return most
@@ -487,6 +495,7 @@ def main():
     reader.add_argument("--keep", action="store_true")
     given = reader.parse_args()
     program, checks = program_of(given.program), Checks()
+    resource.setrlimit(resource.RLIMIT_NOFILE, (2 * CONNECTIONS, max(2 * CONNECTIONS, resource.getrlimit(resource.RLIMIT_NOFILE)[1])))
     limits = {"bind_seconds": BIND_SECONDS, "write_seconds": WRITE_SECONDS, "idle_seconds": 120}
     with centre(program, NODES, ACCOUNTS, given.keep, **limits) as (serving, ports), contextlib.ExitStack() as stack:
         rough = Rough(serving, ports, checks, stack)
