@@ -16,6 +16,7 @@ messages at all nodes, and none of its answers may be wrong, or take longer than
     bound         as many bound transceivers as a node has room for
     churn         3,000 connections one after another, each reset at once, and 300 that bind first
     files         as many connections as the process has files for, while sessions that stand go on
+    crowd         300 messages wait for an account that is bound then: all of them are due at one tick
 
 It prints `ok NAME` or `not ok NAME: SEEN` for each check, figures in lines that begin with spaces, and at last `N checks, M wrong`; the exit status is 1 if
 any is wrong. What the peers were told is taken is queried at the end, and once more after a kill and a start. It takes some four minutes, uses the standard
@@ -43,10 +44,11 @@ from steady import DESTINATION, NAME, Steady
 
 NODES = 3
 BIND_SECONDS, WRITE_SECONDS, MOST_SESSIONS = 60, 5, 99
-ACCOUNTS = {NAME: DESTINATION, "peer": "1", "deaf": "2", "slow": "3", "flood": "4"}
+ACCOUNTS = {NAME: DESTINATION, "peer": "1", "deaf": "2", "slow": "3", "flood": "4", "crowd": "5"}
 # How long an answer to others may take, and how long an orderly end.
 PATIENCE, END_SECONDS = 2, 60
 SLOW_PEERS, FLOODED, CONNECTIONS, DEAF_MESSAGES, LARGE_MESSAGES = 20, 5_000, 1_000, 40, 100
+CROWD, CROWD_SECONDS = 300, 120
 # Within what time a peer that reads nothing is ended: the buffers of the system are full by then, and a write has waited for too long.
 CUT_SECONDS = 150
 # What a peer may push into the centre and its own system's buffers before it has to wait; what the centre may grow by for each connection that is open, of
@@ -427,6 +429,20 @@ class Rough:
         time.sleep(1)
         self.binds_in_time("after_no_files", 1, 2, 3)
 
+    def crowd(self):
+        before, sender = self.memory(), self.bound("peer", 1, pdus.BIND_TRANSMITTER)
+        ids = [sender.submitted("555", b"crowd %d" % number, registered=0) for number in range(CROWD)]
+        self.check("crowd_is_taken", all(ids), ids.count(None))
+        self.taken += ids
+        self.steady.part("crowd_is_due")
+        begun, getter = time.monotonic(), self.bound("crowd", 2, pdus.BIND_RECEIVER)
+        came = wait([getter, sender], lambda: len({one["short_message"] for one in getter.messages()}) == CROWD, CROWD_SECONDS)
+        self.check("crowd_comes", came, lambda: len(getter.messages()))
+        print(f"   {CROWD} messages that waited were delivered in {time.monotonic() - begun:.1f} s", flush=True)
+        self.told("with a crowd", before)
+        getter.close()
+        sender.close()
+
     # What was taken.
 
     def nothing_lost(self, name):
@@ -479,8 +495,8 @@ class Rough:
 
 
 PARTS = {"slow": Rough.slow, "deaf": Rough.deaf, "resets": Rough.resets, "flood": Rough.flood, "endless": Rough.endless, "thousand": Rough.thousand,
-         "bound": Rough.bound_ones, "churn": Rough.churn, "files": Rough.files, "large": Rough.large, "slow_ends": Rough.slow_ends,
-         "deaf_ends": Rough.deaf_ends}
+         "bound": Rough.bound_ones, "churn": Rough.churn, "files": Rough.files, "large": Rough.large, "crowd": Rough.crowd,
+         "slow_ends": Rough.slow_ends, "deaf_ends": Rough.deaf_ends}
 
 
 def parts_of(only):
