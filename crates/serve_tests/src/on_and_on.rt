@@ -11,16 +11,21 @@ use std::process::Abort;
 /// How many messages the client submits.
 const MESSAGES: u32 = 100;
 
+/// How many digits a message_id has.
+const DIGITS: usize = 10;
+
 /// A submit_sm_resp with ESME_ROK up to its sequence_number.
 const ACCEPTED: [u8; 12] = [0, 0, 0, 27, 0x80, 0, 0, 4, 0, 0, 0, 0];
 
 /// The message_id of an answer, which is a submit_sm_resp with ESME_ROK and this sequence_number.
-fn id_in(rt: &impl Abort, answer: &[u8], sequence: u32) -> u64 {
+fn id_in(rt: &impl Abort, alloc: Global, answer: &[u8], sequence: u32) -> u64 {
+    let header = [ACCEPTED.as_slice(), &sequence.to_be_bytes()]
+        .concat(alloc)
+        .expect(rt, "memory");
     assert_same(rt, &answer.len(), &TAKEN.len());
-    assert_same(rt, &&answer[..12], &ACCEPTED.as_slice());
-    assert_same(rt, &&answer[12..16], &sequence.to_be_bytes().as_slice());
+    assert!(rt; answer.starts_with(&header));
     let mut id = 0u64;
-    for digit in &answer[16..26] {
+    for digit in answer.iter().skip(header.len()).take(DIGITS) {
         id = id
             .saturating_mul(10)
             .saturating_add(u64::from(digit.saturating_sub(b'0')));
@@ -33,7 +38,8 @@ fn ids_in(rt: &impl Abort, alloc: Global, answers: &[Vec<u8>]) -> Vec<u64> {
     let mut ids = Vec::new(alloc);
     for (place, answer) in answers.iter().enumerate() {
         let sequence = (place as u32).saturating_add(2);
-        ids.push(id_in(rt, answer, sequence)).expect(rt, "memory");
+        ids.push(id_in(rt, alloc, answer, sequence))
+            .expect(rt, "memory");
     }
     ids
 }
