@@ -1,5 +1,6 @@
 #!/usr/bin/env python3
-"""Prints how many messages a second `centre serve` takes and delivers, over 1 and 3 nodes, in memory and over files, and what processor time a message costs.
+"""Prints how many messages a second `centre serve` takes and delivers, over 1, 3 and 9 nodes, in memory and over files, and what processor time a message
+costs.
 
     python3 bench/serve.py PROGRAM [MESSAGES]
 
@@ -7,10 +8,12 @@ A client at each node binds over a plain socket of 127.0.0.1, keeps ten submit_s
 receipt is asked for. MESSAGES (1,000) are shared among the clients of a run. Printed for each run are the submit_sm answered in a second, up to the last
 answer; the messages delivered in a second, up to the last deliver_sm; the processor time of `serve` for a message, of /proc/PID/stat, which counts
 hundredths of a second; and how many times a second a plain loop writes a page to a file beside the stores and has it on the disk (fdatasync), just before
-the run and just after it. Clients, server and loop share the processors. A run takes two minutes at most, and then says what was left.
+the run and just after it; and how many parts of the journal were closed meanwhile, with the longest pause. Clients, server and loop share the processors. A run
+takes two minutes at most, and then says what was left.
 """
 import os
 import pathlib
+import re
 import shutil
 import sys
 import tempfile
@@ -25,9 +28,10 @@ from ports import free_ports
 from serving import Serving
 
 WINDOW = 10
-MESSAGES, MOST_MESSAGES = 1_000, 2_000
+MESSAGES, MOST_MESSAGES = 1_000, 50_000
 SECONDS = 120
 SYNCS, SYNC_SECONDS = 500, 2
+PART = re.compile(r"part \d+: .*, closed in (\d+) ms")
 
 
 def write_config(folder, nodes, over_files):
@@ -105,6 +109,12 @@ def load(clients):
     return moments.get("answered"), moments.get("delivered")
 
 
+def parts_of(serving):
+    """How many parts of the journal were closed, and the longest pause."""
+    pauses = [int(found[1]) for line in serving.lines if (found := PART.fullmatch(line))]
+    return f"{len(pauses)}, {max(pauses)} ms" if pauses else "0"
+
+
 def run(program, folder, nodes, over_files, messages):
     """A line of the table."""
     ports = write_config(folder, nodes, over_files)
@@ -126,7 +136,8 @@ def run(program, folder, nodes, over_files, messages):
     count, refused = share * nodes, sum(client.refused for client in clients)
     rates = [f"{count / seconds:,.0f}" if seconds else "not all in time" for seconds in (answered, delivered)]
     place = "files" if over_files else "memory"
-    line = [nodes, place, f"{count:,}", *rates, f"{1e3 * used / count:.2f} ms", f"{before:,.0f} and {syncs_a_second(folder):,.0f}"]
+    syncs = f"{before:,.0f} and {syncs_a_second(folder):,.0f}"
+    line = [nodes, place, f"{count:,}", *rates, f"{1e3 * used / count:.2f} ms", syncs, parts_of(serving)]
     print("| " + " | ".join(map(str, line)) + " |", flush=True)
     if refused or status != 0 or not delivered:
         came = sum(client.delivered() for client in clients)
@@ -139,10 +150,10 @@ def main():
     program = pathlib.Path(sys.argv[1]).resolve()
     messages = int(sys.argv[2]) if sys.argv[2:] else MESSAGES
     if not WINDOW <= messages <= MOST_MESSAGES:
-        sys.exit(f"MESSAGES is {WINDOW} to {MOST_MESSAGES}: three nodes take some 80 steps for each, and the journal has room for 200,000")
-    print("| Nodes | Stores | Messages | Submits answered a second | Delivered a second | Processor time a message | fdatasync a second |")
-    print("|---|---|---|---|---|---|---|", flush=True)
-    for nodes in (1, 3):
+        sys.exit(f"MESSAGES is {WINDOW} to {MOST_MESSAGES}")
+    print("| Nodes | Stores | Messages | Submits answered a second | Delivered a second | Processor time a message | fdatasync a second | Parts closed |")
+    print("|---|---|---|---|---|---|---|---|", flush=True)
+    for nodes in (1, 3, 9):
         for over_files in (False, True):
             folder = pathlib.Path(tempfile.mkdtemp(prefix="serve-"))
             try:

@@ -77,12 +77,10 @@ class GoingOn:
         """All that was accepted is delivered, is told so by each node, and has its receipt at the node of its id."""
         left = set(self.ids)
 
-        def all_delivered():
-            for message_id in sorted(left)[:20]:
-                if self.esmes[0].state(message_id)[2] == pdus.DELIVERED:
-                    left.discard(message_id)
-            return not left
-        wait(self.esmes, all_delivered, DELIVERY)
+        end = time.monotonic() + DELIVERY
+        while left and time.monotonic() < end:
+            left -= {one for one in left if self.esmes[0].state(one)[2] == pdus.DELIVERED}
+            wait(self.esmes, lambda: False, 2)
         self.check("all_are_delivered", not left, sorted(left)[:5])
         wait(self.esmes, lambda: False, 1)
         strange = [one for one in self.ids if {esme.state(one)[2] for esme in self.esmes} != {pdus.DELIVERED}]

@@ -36,8 +36,9 @@ fn id_in(rt: &impl Abort, alloc: Global, answer: &[u8], sequence: u32) -> u64 {
 /// The message_ids of all answers.
 fn ids_in(rt: &impl Abort, alloc: Global, answers: &[Vec<u8>]) -> Vec<u64> {
     let mut ids = Vec::new(alloc);
-    for (place, answer) in answers.iter().enumerate() {
-        let sequence = (place as u32).saturating_add(2);
+    let mut sequence = 1u32;
+    for answer in answers {
+        sequence = sequence.saturating_add(1);
         ids.push(id_in(rt, alloc, answer, sequence))
             .expect(rt, "memory");
     }
@@ -57,7 +58,11 @@ fn a_server_goes_on(rt: HostRuntime) {
     let (heard, ended) = served(&rt, alloc, ListStore::make(alloc), case);
     let ids = ids_in(&rt, alloc, &heard);
     assert_same(&rt, &ids.len(), &(MESSAGES as usize));
-    assert!(&rt; ids.iter().zip(&ids[1..]).all(|(one, next)| one < next));
+    assert!(&rt;
+        ids.iter()
+            .zip(ids.iter().skip(1))
+            .all(|(one, next)| one < next)
+    );
     assert_same(&rt, &ids.first().copied(), &Some(1_000_199_940));
     let last = ids.last().copied().unwrap_or(0);
     assert!(&rt; last >= 1_000_300_000);

@@ -109,6 +109,7 @@ pub(crate) fn tick_on<S: StableStore, L: Begins, R: Wait + Eprint + Clock>(
     for _ in shift.rt.forever() {
         wait_for_rounds(shift);
         sleep(shift);
+        low = start_anew_if_low(shift, low);
         if shift.is_over() {
             break;
         }
@@ -116,7 +117,6 @@ pub(crate) fn tick_on<S: StableStore, L: Begins, R: Wait + Eprint + Clock>(
             shift.meet(trouble);
         }
         begin(shift);
-        low = start_anew_if_low(shift, low);
     }
     shift.give_back(seat);
 }
@@ -124,7 +124,8 @@ pub(crate) fn tick_on<S: StableStore, L: Begins, R: Wait + Eprint + Clock>(
 /// After how many ticks a node with few message_ids left starts anew, though requests or deliveries wait there.
 const PATIENCE: u32 = 30;
 
-/// Has a node start anew that has few message_ids left, once nothing waits there, or after thirty ticks. How many ticks it has waited for that.
+/// Has a node start anew that has few message_ids left, once nothing waits there, or after thirty ticks. It is asked a second behind the rounds of a tick, when
+/// the attempts that these began have been made. How many ticks it has waited for that.
 fn start_anew_if_low<S: StableStore, L: Begins, R: Wait + Eprint>(
     shift: &Shift<'_, S, L, R>,
     ticks: u32,
