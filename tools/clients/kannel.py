@@ -144,8 +144,12 @@ def many_messages(check, kannel, web):
     wanted = {f"many{number}" for number in range(MANY)}
     check("many_are_accepted", wait(lambda: wanted <= set(web.tags(ACCEPTED)), 20), lambda: wanted - set(web.tags(ACCEPTED)))
     check("many_have_receipts", wait(lambda: wanted <= set(web.tags(DELIVERED)), 20), lambda: wanted - set(web.tags(DELIVERED)))
-    came = [given["text"] for given in web.came("/message") if given["text"] in wanted]
-    check("many_come_once", sorted(came) == sorted(wanted), lambda: came)
+
+    def texts():
+        return [given["text"] for given in web.came("/message") if given["text"] in wanted]
+    # smsbox hands messages on one after another, behind those receipts.
+    wait(lambda: wanted <= set(texts()), 10)
+    check("many_come_once", sorted(texts()) == sorted(wanted), texts)
     failed = [given for given in web.came("/report") if given["state"] not in (DELIVERED, ACCEPTED)]
     check("no_other_report", not failed, failed)
 
