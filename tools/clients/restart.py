@@ -13,6 +13,9 @@ IN_AN_HOUR = "000000010000000R"
 # So many seconds after its submit_sm a message is due that has to wait for the next start; and the most that a first attempt and a second one lie apart, a
 # minute, with what it takes to be told of it.
 LATER, SECOND_ATTEMPT = 20, 90
+# A node's clock shows the whole second of its last tick, and a tick comes each second or a little later: so far it may lie behind, and what is due in so many
+# seconds by it comes so much earlier.
+BEHIND = 2.5
 FINAL = {pdus.DELIVERED, pdus.EXPIRED, pdus.DELETED, pdus.UNDELIVERABLE, pdus.REJECTED}
 
 
@@ -124,7 +127,7 @@ class Halves:
         self.keep()
         for name, message_id in self.ids.items():
             told = self.states(message_id)
-            may_be = {pdus.ENROUTE, pdus.DELIVERED} if name.startswith("later") and time.time() >= self.due[name] - 1 else {pdus.ENROUTE}
+            may_be = {pdus.ENROUTE, pdus.DELIVERED} if name.startswith("later") and time.time() >= self.due[name] - BEHIND else {pdus.ENROUTE}
             self.check(f"known_after_{name}", {one[0] for one in told} <= may_be, told)
         anew = self.submit("anew", 2)
         self.check("id_of_the_new_incarnation", anew == f"2{incarnations[2]:04d}{FIRST_SERIAL:05d}", anew)
@@ -163,7 +166,7 @@ class Halves:
             return len(came) == len(names)
         self.wait(all_came, LATER + 15)
         for name in names:
-            is_in_time = name in came and came[name] >= self.due[name] - 1
+            is_in_time = name in came and came[name] >= self.due[name] - BEHIND
             self.check(f"delivered_{name}", is_in_time and len(self.messages(name)) == 1, lambda: (came.get(name), self.due[name]))
             message_id = self.ids.pop(name)
             self.wait(lambda: self.have(message_id, pdus.DELIVERED), 10)
