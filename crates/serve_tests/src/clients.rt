@@ -8,6 +8,9 @@ use std::rt::Clock;
 use std::thread;
 use std::time::Duration;
 
+/// How long a steady client waits between two messages, in milliseconds: so few come in a second that a node starts anew before its message_ids are over.
+const PAUSE: u64 = 150;
+
 /// What a client does.
 #[derive(Clone, Copy, Debug, PartialEq, Eq)]
 pub enum Client {
@@ -15,7 +18,7 @@ pub enum Client {
     Plain,
     /// It binds, and submits twice, the first in vain.
     Stubborn,
-    /// It binds as a transmitter, and submits so many messages, 80 milliseconds apart.
+    /// It binds as a transmitter, and submits so many messages, 150 milliseconds apart.
     Steady(u32),
 }
 
@@ -100,7 +103,7 @@ fn submitted<R: Abort + Clock + Net<Listener = TcpListener, Stream = TcpStream>>
         let mut answer = Vec::new(alloc);
         let _ = read_on(rt, &mut stream, &mut answer, TAKEN.len());
         heard.push(answer).expect(rt, "memory");
-        thread::sleep(rt, Duration::from_millis(80));
+        thread::sleep(rt, Duration::from_millis(PAUSE));
     }
     heard
 }

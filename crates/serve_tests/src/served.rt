@@ -87,7 +87,7 @@ fn settings(rt: &impl Abort, alloc: Global, case: Case) -> Settings {
             part_entries: case.part_entries,
             ends_full: false,
         },
-        is_quiet: false,
+        is_quiet: true,
         asked: Arc::new(alloc, AtomicBool::new(false)).expect(rt, "memory"),
     }
 }
