@@ -1,14 +1,14 @@
 -- A round of the code is a round as a node keeps it.
-use Rattle.std.proofs.Common.{◌≡◌, ℕ, Bool, true, Option, Some, None, refl, inl, inr, sym, ap, subst, ◌∙◌}
+use Rattle.std.proofs.Common.{◌≡◌, ℕ, Bool, true, Option, Some, None, inl, inr, sym, ap, subst, ◌∙◌}
 use Rattle.std.proofs.Math.Path.{fun_ext}
-use Rattle.std.specs.Prelude.{IsSome, option_map, if◌then◌else◌}
+use Rattle.std.specs.Prelude.{option_map, if◌then◌else◌}
 use Rattle.std.specs.Bool.{Decides}
 use Rattle.std.proofs.lemmas.Bool.{cases_Bool}
 use Rattle.std.proofs.lemmas.Bool.Decides.{Decides-and, Decides-like, Decides-not}
 use Rattle.mc_types.specs.Nodes.{has}
-use Rattle.mc_model.specs.synod.Majority.{IsMajority, count}
+use Rattle.mc_model.specs.synod.Majority.{IsMajority}
 use Rattle.mc_model.specs.synod.OneSlot.{Vote}
-use Rattle.mc_model.specs.synod.Packet.{Propose, Slot}
+use Rattle.mc_model.specs.synod.Packet.{Propose}
 use Rattle.node_model.specs.Message.{Round}
 use Rattle.node_model.specs.Proposer.{completes, offered, promised_by}
 use Rattle.node_model.specs.Sets.{is_majority, with_node}
@@ -30,12 +30,6 @@ pub completes_so : (nodes : ℕ) (old : Running) (after node : ℕ) → ((other 
 completes_so nodes old after node members before most =
     (Decides-and _ _ (Decides-not (is_majority nodes (has old.promised)) (most_decides nodes (has old.promised)))
     (most_decides nodes (with_node (has old.promised) node))).1 (before, subst (λ (f : ℕ → Bool). IsMajority nodes f) (fun_ext members) most)
-
--- the promise that completes a majority is followed by a Propose
-pub proposes_then : (me nodes : ℕ) (old : Running) (node : ℕ) (report : Option Vote) → completes nodes (as_round old) node ≡ true →
-    IsSome (proposed_in me nodes (Some (as_round old)) node report)
-proposes_then me nodes old node report test =
-    subst (λ (b : Bool). IsSome (if b then Some (Propose me old.slot (offered (promised_by (as_round old) node report))) else None)) (sym test) refl
 
 completes_decides : (nodes : ℕ) (old new : Running) (node : ℕ) (report : Option Vote) → IsCounted old node report new →
     Decides (completes nodes (as_round old) node) (Completes nodes old new)
