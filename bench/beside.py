@@ -106,8 +106,8 @@ class Feeder:
 
 
 def configure(folder, in_file):
-    """Has smsbox ask as many times at once as messages are open, which the small server here takes, and bearerbox keep its queue in a file if it is to. Both log
-    no details."""
+    """Has smsbox ask as many times at once as messages are open, which the small server here takes, and bearerbox keep its queue in a file if it
+    is to. Both log no details."""
     path = folder / "kannel.conf"
     text = path.read_text().replace("log-level = 0", "log-level = 1")
     text = text.replace("group = smsbox\n", f"group = smsbox\nmax-pending-requests = {WINDOW}\n", 1)

@@ -6,10 +6,10 @@ costs; and beside it what others do that do a part of its work.
 
 A client at each node binds over a plain socket of 127.0.0.1, keeps ten submit_sm open, and gets its own messages back, each of which it answers at once; no
 receipt is asked for. MESSAGES (1,000) are shared among the clients of a run. Printed for each run are the submit_sm answered in a second, up to the last
-answer; the messages delivered in a second, up to the last deliver_sm; the processor time of `serve` for a message, of /proc/PID/stat, which counts
-hundredths of a second; and how many times a second a plain loop writes a page to a file beside the stores and has it on the disk (fdatasync), just before
-the run and just after it; and how many parts of the journal were closed meanwhile, with the longest pause. Clients, server and loop share the processors. A run
-takes two minutes at most, and then says what was left.
+answer; the messages delivered in a second, up to the last deliver_sm; the processor time of `serve` for a message, of /proc/PID/stat, which counts hundredths
+of a second; and how many times a second a plain loop writes a page to a file beside the stores and has it on the disk (fdatasync), just before the run and just
+after it; and how many parts of the journal were closed meanwhile, with the longest pause. Clients, server and loop share the processors. A run takes two
+minutes at most, and then says what was left.
 
 Others, with one client and the same messages, in the same table: CENTRE, a Python file of a message centre in one process, run as `python3 CENTRE PORT SECONDS`,
 which does the same for its client, and keeps nothing, neither on a disk nor on other nodes. Kannel (Debian's `kannel`, if it is there) is no centre but an ESME:

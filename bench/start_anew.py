@@ -3,12 +3,12 @@
 
     python3 bench/start_anew.py PROGRAM [MESSAGES ..]
 
-Three nodes over stores in memory; a client at node 1 keeps ten submit_sm open: of a tenth of the messages, which are delivered to itself with a delivery receipt
-each, and once these have come, of messages that are due in a week, until the node has few message_ids left: half of its own up to 10,000 messages, and 10,000
-else. Printed are the messages, the submit_sm of the second kind that are answered in a second, the seconds from the last answer to the start, those from the
-start until the node is through with its first tick, the processor time of `serve` meanwhile, the slowest of the query_sm that the client asks all the while,
-the receipts that came before the start and those that the start sends again, and the parts of the journal that were closed, with the longest pause. MESSAGES are
-1,000, 10,000 and 89,999 if none are named.
+Three nodes over stores in memory; a client at node 1 keeps ten submit_sm open: of a tenth of the messages, which are delivered to itself with a delivery
+receipt each, and once these have come, of messages that are due in a week, until the node has few message_ids left: half of its own up to 10,000 messages, and
+10,000 else. Printed are the messages, the submit_sm of the second kind that are answered in a second, the seconds from the last answer to the start, those from
+the start until the node is through with its first tick, the processor time of `serve` meanwhile, the slowest of the query_sm that the client asks all the
+while, the receipts that came before the start and those that the start sends again, and the parts of the journal that were closed, with the longest pause.
+MESSAGES are 1,000, 10,000 and 89,999 if none are named.
 """
 import pathlib
 import shutil
