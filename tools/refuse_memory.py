@@ -1,14 +1,21 @@
 #!/usr/bin/env python3
-"""Refuses memory to the built program, at each of its requests for some in turn, over the worked scripts.
+"""Refuses memory at each request for some in turn: to the built program over the worked scripts, or to the tests of a crate.
 
     python3 tools/refuse_memory.py PROGRAM [ROW ..]
+    python3 tools/refuse_memory.py --tests TESTS ..
 
-For each script that ends well (all rows of crates/centre/data/rows, or these) it runs `PROGRAM script` again and again, and refuses the first,
-the second, the third request for memory, and so on, until a run asks for less. Each of these runs must end with status 1 and one line on
-standard error, and what it wrote until then must be the beginning of what is expected, up to the end of a line; the last run must write all
-of it. A library that is written and built here with gcc counts the calls of malloc and its kin; the dynamic linker puts it in front of the C
-library's. Prints a line for each script: how many requests were refused.
+For each worked script (all rows of crates/centre/data/rows, or these) it runs `PROGRAM script` again and again, and refuses the first, the
+second, the third request for memory, and so on, until a run asks for less. Each of these runs must end with status 1 and one line on standard
+error, and what it wrote until then must be the beginning of what is expected, up to the end of a line. The last run must write all of it, and
+end as the row says.
+
+TESTS is what `rt test` leaves of a crate, as crates/memory_tests/out/memory_tests_tests. Each of its tests is run in the same way, alone, and
+has to pass in each run: it looks at what was answered, and makes the call again.
+
+A library that is written and built here with gcc counts the calls of malloc and its kin; the dynamic linker puts it in front of the C
+library's. Prints a line for each script or test: how many requests were refused. Runs go on side by side, one a processor.
 """
+import concurrent.futures
 import os
 import pathlib
 import subprocess
@@ -20,20 +27,28 @@ REFUSER = r"""
 #define _GNU_SOURCE
 #include <dlfcn.h>
 #include <errno.h>
+#include <fcntl.h>
 #include <stddef.h>
 #include <stdlib.h>
+#include <unistd.h>
 
 static unsigned long left;
+static const char *mark;
 
 __attribute__((constructor)) static void begin(void)
 {
     const char *number = getenv("REFUSED");
     left = number ? strtoul(number, NULL, 10) : 0;
+    mark = getenv("REFUSED_MARK");
 }
 
 static int refused(void)
 {
-    return left > 0 && --left == 0;
+    if (left == 0 || --left > 0)
+        return 0;
+    if (mark)
+        close(open(mark, O_CREAT | O_WRONLY, 0600));
+    return 1;
 }
 
 #define REFUSE(name, parameters, arguments)               \
@@ -70,46 +85,96 @@ def built_refuser(work):
     return refuser
 
 
-def run(program, script, refuser, number):
-    environment = {**os.environ, "LD_PRELOAD": str(refuser), "REFUSED": str(number)}
-    return subprocess.run([program, "script"], input=script, capture_output=True, env=environment)
+def run(refuser, command, script, number):
+    """A run with this request refused, and whether it made so many."""
+    with tempfile.TemporaryDirectory(prefix="refused-", dir=refuser.parent) as folder:
+        mark = pathlib.Path(folder) / "mark"
+        environment = {**os.environ, "LD_PRELOAD": str(refuser), "REFUSED": str(number), "REFUSED_MARK": str(mark)}
+        ended = subprocess.run(command, input=script, capture_output=True, env=environment)
+        return ended, mark.exists()
 
 
-def fault_in(ended, expected):
-    """What is wrong with a run to which memory was refused; None if nothing is."""
-    if ended.returncode != 1:
-        return f"status {ended.returncode}"
-    if ended.stderr.count(b"\n") != 1:
-        return f"standard error {ended.stderr!r}"
-    if not expected.startswith(ended.stdout) or (ended.stdout and not ended.stdout.endswith(b"\n")):
-        return f"output {ended.stdout!r}"
-    return None
+def text_of(row, suffix, default):
+    path = row.with_suffix(suffix)
+    return path.read_bytes() if path.exists() else default
 
 
-def refusals(program, row, refuser):
-    """How many requests for memory a script makes; each was refused, in a run of its own."""
-    script, expected = row.read_bytes(), row.with_suffix(".expected").read_bytes()
+class Script:
+    """A worked script, which is refused once, or ends as it must."""
+
+    def __init__(self, program, row):
+        self.name, self.command = row.stem, [program, "script"]
+        self.octets, self.expected = row.read_bytes(), row.with_suffix(".expected").read_bytes()
+        self.status, self.told = int(text_of(row, ".status", b"0")), text_of(row, ".stderr", b"")
+
+    def fault_in(self, ended, refused):
+        """What is wrong with a run; None if nothing is."""
+        if not refused:
+            whole = (ended.returncode, ended.stdout, ended.stderr) == (self.status, self.expected, self.told)
+            return None if whole else f"it ends otherwise: status {ended.returncode}, {ended.stderr!r}"
+        if ended.returncode != 1:
+            return f"status {ended.returncode}"
+        if ended.stderr.count(b"\n") != 1:
+            return f"standard error {ended.stderr!r}"
+        if not self.expected.startswith(ended.stdout) or (ended.stdout and not ended.stdout.endswith(b"\n")):
+            return f"output {ended.stdout!r}"
+        return None
+
+
+class Test:
+    """A test of a crate, which passes, refused or not."""
+
+    def __init__(self, tests, name):
+        self.name, self.command, self.octets = name, [tests, name], b""
+
+    def fault_in(self, ended, refused):
+        if ended.returncode == 0 and ended.stdout.endswith(b"test result: ok\n"):
+            return None
+        return f"status {ended.returncode}, {(ended.stdout + ended.stderr).decode(errors='replace')}"
+
+
+def refusals(tried, refuser):
+    """How many requests for memory it makes; each was refused, in a run of its own."""
     number = 1
     while True:
-        ended = run(program, script, refuser, number)
-        if ended.returncode == 0 and ended.stdout == expected:
-            return number - 1
-        fault = fault_in(ended, expected)
+        ended, refused = run(refuser, tried.command, tried.octets, number)
+        fault = tried.fault_in(ended, refused)
         if fault:
-            sys.exit(f"{row.stem}: request {number} for memory refused: {fault}")
+            return number, fault
+        if not refused:
+            return number - 1, None
         number += 1
+
+
+def tests_of(tests):
+    listed = subprocess.run([tests, "--list"], capture_output=True, text=True, check=True).stdout
+    return [Test(tests, line.removesuffix(": test")) for line in listed.splitlines() if line.endswith(": test")]
+
+
+def all_tried(arguments):
+    if arguments[0] == "--tests":
+        programs = [pathlib.Path(name).resolve() for name in arguments[1:]]
+        return [test for program in programs for test in tests_of(program)]
+    program = pathlib.Path(arguments[0]).resolve()
+    named = [ROWS / f"{name}.script" for name in arguments[1:]]
+    return [Script(program, row) for row in named or sorted(ROWS.glob("*.script"))]
 
 
 def main():
     if len(sys.argv) < 2:
         sys.exit(__doc__)
-    program = pathlib.Path(sys.argv[1]).resolve()
-    named = [ROWS / f"{name}.script" for name in sys.argv[2:]]
-    rows = named or [row for row in sorted(ROWS.glob("*.script")) if not row.with_suffix(".status").exists()]
-    with tempfile.TemporaryDirectory(prefix="refuse-") as work:
-        refuser = built_refuser(pathlib.Path(work))
-        for row in rows:
-            print(f"{row.stem}: {refusals(program, row, refuser)} requests refused", flush=True)
+    count, total, wrong = 0, 0, 0
+    with tempfile.TemporaryDirectory(prefix="refuse-") as work, concurrent.futures.ThreadPoolExecutor(os.cpu_count()) as pool:
+        refuser, all_of = built_refuser(pathlib.Path(work)), all_tried(sys.argv[1:])
+        for tried, (number, fault) in zip(all_of, pool.map(lambda tried: refusals(tried, refuser), all_of)):
+            count, total = count + 1, total + number
+            if fault:
+                wrong += 1
+                print(f"not ok {tried.name}: request {number} for memory refused: {fault}", flush=True)
+            else:
+                print(f"{tried.name}: {number} requests refused", flush=True)
+    print(f"{count} tried, {total} requests refused, {wrong} wrong")
+    sys.exit(1 if wrong else 0)
 
 
 if __name__ == "__main__":

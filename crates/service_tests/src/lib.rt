@@ -8,4 +8,6 @@ mod octets;
 #[cfg(test)]
 mod same;
 #[cfg(test)]
+mod streams;
+#[cfg(test)]
 mod values;

@@ -20,6 +20,9 @@ pub const QUERY: &[u8] = b"\0\0\0\x21\0\0\0\x03\0\0\0\0\0\0\0\x031000100001\0\x0
 /// Its response, if it is refused by ESME_RINVMSGID.
 pub const QUERY_REFUSED: &[u8] = b"\0\0\0\x10\x80\0\0\x03\0\0\0\x0c\0\0\0\x03";
 
+/// Its response, if the message is ENROUTE.
+pub const QUERY_ENROUTE: &[u8] = b"\0\0\0\x1e\x80\0\0\x03\0\0\0\0\0\0\0\x031000100001\0\0\x01\0";
+
 /// The deliver_sm of the first attempt of the message, with the sequence_number 1.
 pub const DELIVERY: &[u8] = b"\0\0\0\x29\0\0\0\x05\0\0\0\0\0\0\0\x01\
 \0\x01\x01144\0\x01\x01155\0\0\0\0\0\0\0\0\0\0\x02Hi";
