@@ -161,6 +161,18 @@ struct Tally { place: usize, ballot: u64, voters: u16 }
 
 struct Round { ballot: u64, own: Rc<Chain>, promised: u16, highest: Option<Vote> }
 
+impl Round {
+    /// Counts a promise, and gives the vote that is asked for, if the promise completes a majority.
+    fn count(&mut self, nodes: u8, from: u8, reported: &Option<Vote>) -> Option<Vote> {
+        let had_most = is_majority(nodes, self.promised);
+        self.promised |= 1 << from;
+        if let Some(vote) = reported && self.highest.as_ref().is_none_or(|top| top.ballot < vote.ballot) { self.highest = Some(vote.clone()) }
+        if had_most || !is_majority(nodes, self.promised) { return None }
+        let chain = self.highest.as_ref().map_or(&self.own, |vote| &vote.chain).clone();
+        Some(Vote { ballot: self.ballot, chain })
+    }
+}
+
 #[derive(Default)]
 struct Entry {
     records: Vec<Record>, tallies: Vec<Tally>, known: Option<Rc<Chain>>, round: Option<Round>, seen: [u64; PLACES], granted: u32, closed: Vec<(usize, Kind)>,
@@ -190,6 +202,11 @@ impl Entry {
         let ballot = round << 18 | 1 << 4 | u64::from(me);
         packets.push(Packet::Prepare { from: me, id: chain.id, place, ballot });
         self.round = Some(Round { ballot, own: chain, promised: 0, highest: None });
+    }
+
+    fn refused(&mut self, place: usize, ballot: u64, promised: u64) {
+        self.seen[place] = self.seen[place].max(promised >> 18);
+        if ballot < promised && self.running(place, ballot).is_some() { self.round = None }
     }
 
     /// Counts a vote, and tells whether its chain is known from then on.
@@ -248,54 +265,53 @@ impl Node {
     }
 
     fn on_packet(&mut self, packet: &Packet, out: &mut Out) {
-        let (me, nodes) = (self.number, self.nodes);
+        let me = self.number;
         match packet {
-            Packet::Prepare { id, place, ballot, .. } => {
-                let record = self.entry(*id).record(*place);
-                if *ballot <= record.promised {
-                    out.packets.push(Packet::Refused { from: me, id: *id, place: *place, ballot: *ballot, promised: record.promised });
-                } else {
-                    record.promised = *ballot;
-                    out.packets.push(Packet::Promise { from: me, id: *id, place: *place, ballot: *ballot, vote: record.vote.clone() });
-                }
-            }
+            Packet::Prepare { id, place, ballot, .. } => self.on_prepare(*id, *place, *ballot, out),
             Packet::Promise { from, id, place, ballot, vote } => {
                 let Some(round) = self.entries.get_mut(id).and_then(|entry| entry.running(*place, *ballot)) else { return };
-                let had_most = is_majority(nodes, round.promised);
-                round.promised |= 1 << from;
-                if let Some(vote) = vote && round.highest.as_ref().is_none_or(|top| top.ballot < vote.ballot) { round.highest = Some(vote.clone()) }
-                if !had_most && is_majority(nodes, round.promised) {
-                    let chain = round.highest.as_ref().map_or(&round.own, |vote| &vote.chain).clone();
-                    out.packets.push(Packet::Propose { from: me, vote: Vote { ballot: round.ballot, chain } });
-                }
+                let proposed = round.count(self.nodes, *from, vote);
+                out.packets.extend(proposed.map(|vote| Packet::Propose { from: me, vote }));
             }
-            Packet::Propose { vote, .. } => {
-                let (id, place) = (vote.chain.id, vote.chain.place());
-                let record = self.entry(id).record(place);
-                if vote.ballot < record.promised {
-                    out.packets.push(Packet::Refused { from: me, id, place, ballot: vote.ballot, promised: record.promised });
-                } else {
-                    *record = Record { place, promised: vote.ballot, vote: Some(vote.clone()) };
-                    out.packets.push(Packet::Voted { from: me, vote: vote.clone() });
-                }
-            }
-            Packet::Voted { from, vote } => {
-                let entry = self.entry(vote.chain.id);
-                let had_fate = entry.known.as_ref().is_some_and(|chain| chain.fate().is_some());
-                if entry.hear(nodes, *from, vote) { self.learned(&vote.chain, had_fate, out) }
-            }
-            Packet::Refused { id, place, ballot, promised, .. } if *ballot & 0xF == u64::from(me) => {
-                let entry = self.entry(*id);
-                entry.seen[*place] = entry.seen[*place].max(promised >> 18);
-                if ballot < promised && entry.running(*place, *ballot).is_some() { entry.round = None }
-            }
+            Packet::Propose { vote, .. } => self.on_propose(vote, out),
+            Packet::Voted { from, vote } => self.on_voted(*from, vote, out),
+            Packet::Refused { id, place, ballot, promised, .. } if *ballot & 0xF == u64::from(me) => self.entry(*id).refused(*place, *ballot, *promised),
             Packet::Ask { from, id, ticket } => {
                 let told = self.entries.get(id).and_then(Entry::told).cloned();
                 out.packets.push(Packet::Tell { from: me, asker: *from, ticket: *ticket, told });
             }
             Packet::Tell { from, asker, ticket, told } if *asker == me => self.on_tell(*from, *ticket, told, out),
-            _ => {}
+            Packet::Refused { .. } | Packet::Tell { .. } => {}
         }
+    }
+
+    fn on_prepare(&mut self, id: u64, place: usize, ballot: u64, out: &mut Out) {
+        let from = self.number;
+        let record = self.entry(id).record(place);
+        if ballot <= record.promised {
+            out.packets.push(Packet::Refused { from, id, place, ballot, promised: record.promised });
+        } else {
+            record.promised = ballot;
+            out.packets.push(Packet::Promise { from, id, place, ballot, vote: record.vote.clone() });
+        }
+    }
+
+    fn on_propose(&mut self, vote: &Vote, out: &mut Out) {
+        let (from, id, place, ballot) = (self.number, vote.chain.id, vote.chain.place(), vote.ballot);
+        let record = self.entry(id).record(place);
+        if ballot < record.promised {
+            out.packets.push(Packet::Refused { from, id, place, ballot, promised: record.promised });
+        } else {
+            *record = Record { place, promised: ballot, vote: Some(vote.clone()) };
+            out.packets.push(Packet::Voted { from, vote: vote.clone() });
+        }
+    }
+
+    fn on_voted(&mut self, from: u8, vote: &Vote, out: &mut Out) {
+        let nodes = self.nodes;
+        let entry = self.entry(vote.chain.id);
+        let had_fate = entry.known.as_ref().is_some_and(|chain| chain.fate().is_some());
+        if entry.hear(nodes, from, vote) { self.learned(&vote.chain, had_fate, out) }
     }
 
     fn on_tell(&mut self, from: u8, ticket: u64, told: &Option<Vote>, out: &mut Out) {
@@ -514,7 +530,8 @@ fn put_digits(text: &mut Vec<u8>, octets: &[u8]) {
     text.extend(octets.iter().flat_map(|octet| [b"0123456789abcdef"[usize::from(octet >> 4)], b"0123456789abcdef"[usize::from(octet & 15)]]));
 }
 
-fn put_pdu(text: &mut Vec<u8>, at: usize, number: u8, command: u32, status: u32, sequence: u32, body: &[u8]) {
+/// A line with a PDU: the place of its node, the number of its session, and its command, status and sequence_number.
+fn put_pdu(text: &mut Vec<u8>, (at, number): (usize, u8), [command, status, sequence]: [u32; 3], body: &[u8]) {
     write!(text, "pdu {} {number} ", at + 1).unwrap();
     [16 + body.len() as u32, command, status, sequence].iter().for_each(|word| put_digits(text, &word.to_be_bytes()));
     put_digits(text, body);
@@ -620,7 +637,7 @@ impl Centre {
             if chain.fate().is_some() { body.extend([&stamp(chain.newest().moment)[..], b"000+"].concat()) }
             body.extend_from_slice(&[0, chain.fate().unwrap_or(1), chain.error().min(255) as u8]);
         }
-        put_pdu(&mut self.text, at, number, command | RESPONSE, reply.status, sequence, &body);
+        put_pdu(&mut self.text, (at, number), [command | RESPONSE, reply.status, sequence], &body);
     }
 
     /// Receipts go out that wait for an account, as far as its sessions take them.
@@ -628,7 +645,7 @@ impl Centre {
         let now = self.nodes[at].clock;
         while !self.sites[at].waiting[account].is_empty() && let Some((number, sequence, knows_optional)) = self.sites[at].push(account, now, None) {
             let chain = self.sites[at].waiting[account].pop_front().unwrap();
-            put_pdu(&mut self.text, at, number, DELIVER_SM, OK, sequence, &receipt(&chain, knows_optional));
+            put_pdu(&mut self.text, (at, number), [DELIVER_SM, OK, sequence], &receipt(&chain, knows_optional));
         }
     }
 
@@ -643,7 +660,7 @@ impl Centre {
         stream.extend_from_slice(octets);
         let mut rest = &stream[..];
         while let Some(length) = rest.first_chunk().map(|length| u32::from_be_bytes(*length) as usize) {
-            if !(16..=8_192).contains(&length) { return self.leave(at, number, RESPONSE, 2, 0) }
+            if !(16..=8_192).contains(&length) { return self.leave(at, number, [RESPONSE, 2, 0]) }
             let Some((frame, others)) = rest.split_at_checked(length) else { break };
             self.serve(at, number, frame);
             let Some(session) = self.sites[at].sessions.get(&number) else { return };
@@ -656,10 +673,10 @@ impl Centre {
     }
 
     /// The session is gone with this response, and gives up its attempts.
-    fn leave(&mut self, at: usize, number: u8, command: u32, status: u32, sequence: u32) {
+    fn leave(&mut self, at: usize, number: u8, [command, status, sequence]: [u32; 3]) {
         let session = self.sites[at].sessions.remove(&number).unwrap();
         session.pushed.iter().for_each(|pushed| self.answered(at, pushed.attempt, NO_ANSWER));
-        put_pdu(&mut self.text, at, number, command, status, sequence, &[]);
+        put_pdu(&mut self.text, (at, number), [command, status, sequence], &[]);
         writeln!(self.text, "gone {} {number}", at + 1).unwrap();
     }
 
@@ -667,21 +684,21 @@ impl Centre {
         let word = |place: usize| u32::from_be_bytes(*frame[place..].first_chunk().unwrap());
         let (command, status, sequence, fields) = (word(4), word(8), word(12), Fields(&frame[16..]));
         let served = match command {
-            BIND_RECEIVER | BIND_TRANSMITTER | BIND_TRANSCEIVER => self.bind(at, number, command, sequence, fields),
-            SUBMIT_SM | QUERY_SM | CANCEL_SM => self.request(at, number, command, sequence, fields),
-            UNBIND | ENQUIRE_LINK => self.link(at, number, command, sequence, fields),
-            0x8000_0005 | RESPONSE => return self.response(at, number, command, status, sequence, fields),
+            BIND_RECEIVER | BIND_TRANSMITTER | BIND_TRANSCEIVER => self.bind(at, number, [command, sequence], fields),
+            SUBMIT_SM | QUERY_SM | CANCEL_SM => self.request(at, number, [command, sequence], fields),
+            UNBIND | ENQUIRE_LINK => self.link(at, number, [command, sequence], fields),
+            0x8000_0005 | RESPONSE => return self.response(at, number, [command, status, sequence], fields),
             0x8000_0001..=0x8000_0004 | 0x8000_0006 | 0x8000_0008 | 0x8000_0009 | 0x8000_0015 => return,
             _ => Err(Fault::Nack(3)),
         };
         match served {
             Ok(()) => {}
-            Err(Fault::Nack(status)) => put_pdu(&mut self.text, at, number, RESPONSE, status, sequence, &[]),
-            Err(Fault::Refused(status)) => put_pdu(&mut self.text, at, number, command | RESPONSE, status, sequence, &[]),
+            Err(Fault::Nack(status)) => put_pdu(&mut self.text, (at, number), [RESPONSE, status, sequence], &[]),
+            Err(Fault::Refused(status)) => put_pdu(&mut self.text, (at, number), [command | RESPONSE, status, sequence], &[]),
         }
     }
 
-    fn bind(&mut self, at: usize, number: u8, command: u32, sequence: u32, mut fields: Fields) -> Result<(), Fault> {
+    fn bind(&mut self, at: usize, number: u8, [command, sequence]: [u32; 2], mut fields: Fields) -> Result<(), Fault> {
         let (system_id, password) = (fields.text(15, 0x0F)?, fields.text(8, 0x0E)?);
         fields.text(12, 0x53)?;
         let version = fields.take(3)?[0];
@@ -693,23 +710,23 @@ impl Centre {
         if ACCOUNTS[account].1 != password { return Err(Fault::Refused(0x0E)) }
         (session.role, session.account, session.version) = (command, account, version);
         let body: &[u8] = if version >= 0x34 { b"CENTRE\0\x02\x10\0\x01\x34" } else { b"CENTRE\0" };
-        put_pdu(&mut self.text, at, number, command | RESPONSE, OK, sequence, body);
+        put_pdu(&mut self.text, (at, number), [command | RESPONSE, OK, sequence], body);
         Ok(())
     }
 
-    fn link(&mut self, at: usize, number: u8, command: u32, sequence: u32, fields: Fields) -> Result<(), Fault> {
+    fn link(&mut self, at: usize, number: u8, [command, sequence]: [u32; 2], fields: Fields) -> Result<(), Fault> {
         fields.end()?;
         if command == ENQUIRE_LINK {
-            put_pdu(&mut self.text, at, number, command | RESPONSE, OK, sequence, &[]);
+            put_pdu(&mut self.text, (at, number), [command | RESPONSE, OK, sequence], &[]);
         } else if self.sites[at].sessions[&number].role == 0 {
             return Err(Fault::Refused(INVALID_BIND_STATUS));
         } else {
-            self.leave(at, number, command | RESPONSE, OK, sequence);
+            self.leave(at, number, [command | RESPONSE, OK, sequence]);
         }
         Ok(())
     }
 
-    fn request(&mut self, at: usize, number: u8, command: u32, sequence: u32, mut fields: Fields) -> Result<(), Fault> {
+    fn request(&mut self, at: usize, number: u8, [command, sequence]: [u32; 2], mut fields: Fields) -> Result<(), Fault> {
         let (mut message, mut asked) = (None, None);
         if command == SUBMIT_SM {
             message = Some(fields.message()?);
@@ -738,7 +755,7 @@ impl Centre {
         Ok(())
     }
 
-    fn response(&mut self, at: usize, number: u8, command: u32, status: u32, sequence: u32, mut fields: Fields) {
+    fn response(&mut self, at: usize, number: u8, [command, status, sequence]: [u32; 3], mut fields: Fields) {
         if !fields.0.is_empty() && (command == RESPONSE || fields.text(64, 0).and_then(|_| fields.end()).is_err()) { return }
         let pushed = &mut self.sites[at].sessions.get_mut(&number).unwrap().pushed;
         let Some(place) = pushed.iter().position(|pushed| pushed.sequence == sequence) else { return };
@@ -770,7 +787,7 @@ impl Centre {
                 let slot = Some((id, chain.place()));
                 match self.sites[at].push(chain.message.target, self.nodes[at].clock, slot) {
                     Some((number, sequence, knows_optional)) => {
-                        put_pdu(&mut self.text, at, number, DELIVER_SM, OK, sequence, &delivery(&chain.message, knows_optional));
+                        put_pdu(&mut self.text, (at, number), [DELIVER_SM, OK, sequence], &delivery(&chain.message, knows_optional));
                     }
                     None => self.answered(at, slot, NO_ANSWER),
                 }
