@@ -1,6 +1,6 @@
 //! What a session makes of the octets of one frame.
 
-ghost use Rattle.std.specs.Prelude.{◌≡◌, Err, Ok, IfOk, OnErr, OnOk};
+ghost use Rattle.std.specs.Prelude.{◌≡◌, Err, Ok, IfOk, IsOk, OnErr, OnOk};
 ghost use Rattle.accounts.specs.Routes.{target_of};
 ghost use Rattle.pdu_codec.specs.Pdu.{read_pdu};
 ghost use Rattle.sessions.specs.Steps.{on_pdu, on_wrong_length};
@@ -15,7 +15,7 @@ use pdu_codec::{Body, Pdu, PduFault, SystemId, decode, read_header};
 use sessions::{Reaction, Requested, Session};
 use std::alloc::{AllocError, Global};
 
-/// The octets of one frame came on a session. An `Err` is want of memory, and changes nothing.
+/// The octets of one frame came on a session. An `Err` is want of memory, which only a PDU needs, and changes nothing.
 pub(crate) fn hear_frame(
     alloc: Global,
     config: &Config,
@@ -26,6 +26,7 @@ pub(crate) fn hear_frame(
     ensures heard { IfOk result (λ heard.
         heard ≡ heard_in (settings_of config.now) (read_pdu frame.now) (done_by (settings_of config.now) session.old frame.now (read_pdu frame.now))) }
     ensures same { OnErr result (session.new ≡ session.old) }
+    ensures memory { OnErr result (IsOk (read_pdu frame.now)) }
 {
     let Some(header) = read_header(frame) else {
         return Ok(hear_wrong_length(session));

@@ -1,7 +1,8 @@
 //! The service of the ESMEs at a node.
 
-ghost use Rattle.std.specs.Prelude.{◌≡◌, ◌==◌, [], not, find, length, option_map, IfErr, IfOk, OnErr, OnOk, is_some};
+ghost use Rattle.std.specs.Prelude.{◌≡◌, ◌==◌, [], not, true, find, length, option_map, IfErr, IfOk, IsOk, OnErr, OnOk, is_some};
 ghost use Rattle.std.specs.Option.{option_copied};
+ghost use Rattle.pdu_codec.specs.Pdu.{read_pdu};
 ghost use Rattle.esme_service.specs.Hearing.{heeds, ends_at};
 ghost use Rattle.esme_service.specs.Replies.{owner_of, replied};
 ghost use Rattle.esme_service.specs.Settings.{settings_of};
@@ -98,12 +99,14 @@ impl Service {
     }
 
     /// The octets of one frame came on the session of a number. A session that is gone by them is connected no longer. Nothing comes of them
-    /// if it is not connected.
+    /// if it is not connected. An `Err` is want of memory, which only a PDU on a session that is connected needs.
     pub fn hear(&mut self, config: &Config, number: u8, frame: &[u8]) -> Result<Heard, AllocError>
         ensures heard { IfOk result (λ heard. heard ≡ (heeds (settings_of config.now) self.old.sessions number frame.now).heard) }
         ensures after { OnOk result (self.new ≡ record self.old { sessions = (heeds (settings_of config.now) self.old.sessions number frame.now).sessions }) }
         ensures goes { OnOk result (Goes number (heeds (settings_of config.now) self.old.sessions number frame.now)) }
         ensures err { OnErr result (self.new ≡ self.old) }
+        ensures memory { OnErr result (IsOk (read_pdu frame.now)) }
+        ensures connected { OnErr result (is_some (session_at self.old.sessions number) ≡ true) }
     {
         let alloc = self.waiting.allocator();
         let Some(session) = self.sessions.get_mut(&number) else {

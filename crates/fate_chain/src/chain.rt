@@ -16,6 +16,7 @@ use crate::fault::ChainFault;
 use crate::marks::Standing;
 use crate::progress::Progress;
 use crate::reading::{check, decrees_of, head_at};
+use crate::shared_decrees::SharedDecrees;
 use crate::shared_submission::SharedSubmission;
 use crate::submission::Submission;
 use crate::writing::{put_chain_head, put_decrees};
@@ -29,7 +30,7 @@ use std::marker::Model;
 pub struct Chain {
     id: MsgId,
     // The oldest first.
-    decrees: Vec<Decree>,
+    decrees: SharedDecrees,
 }
 
 impl Model for Chain {
@@ -38,9 +39,9 @@ impl Model for Chain {
 
     ghost Value = { Chain };
 
-    ghost view = { λ c. record { id = c.id; decrees = reverse c.decrees.items } };
+    ghost view = { λ c. record { id = c.id; decrees = reverse c.decrees } };
 
-    ghost invariant = { λ c. IsPermitted c.id (reverse c.decrees.items) };
+    ghost invariant = { λ c. IsPermitted c.id (reverse c.decrees) };
 }
 
 impl Chain {
@@ -74,7 +75,10 @@ impl Chain {
             moment,
             kind: Kind::Taken(SharedSubmission::make(alloc, message)?),
         })?;
-        Ok(Chain { id, decrees })
+        Ok(Chain {
+            id,
+            decrees: SharedDecrees::make(decrees)?,
+        })
     }
 
     /// The message's id.
@@ -89,21 +93,21 @@ impl Chain {
         ensures place { result ≡ pred (length self.now.decrees) }
         ensures range { result ≤ 17 }
     {
-        (self.decrees.len() - 1) as u8
+        (self.decrees.list().len() - 1) as u8
     }
 
     /// The newest decree.
     pub fn newest(&self) -> &Decree
         ensures { slice_get self.now.decrees 0 ≡ Some result.now }
     {
-        self.decrees.last().unwrap()
+        self.decrees.list().last().unwrap()
     }
 
     /// What was taken, by its first decree.
     pub fn submission(&self) -> &Submission
         ensures { taken_in self.now.decrees ≡ Some result.now }
     {
-        let first = self.decrees.first().unwrap();
+        let first = self.decrees.list().first().unwrap();
         match &first.kind {
             Kind::Taken(message) => message.submission(),
             _ => unreachable!(),
@@ -136,7 +140,7 @@ impl Chain {
         ensures range { result ≤ 999 }
     {
         let mut error = 0;
-        for decree in &self.decrees {
+        for decree in self.decrees.list() {
             error = decree.error_after(error);
         }
         error
@@ -155,7 +159,7 @@ impl Chain {
         ensures standing { IsStandingOf self.now.decrees result }
         ensures attempts { result.attempts ≤ 8 }
     {
-        match Progress::of(self.id, &self.decrees) {
+        match Progress::of(self.id, self.decrees.list()) {
             Progress::Stands(standing) => standing,
             Progress::Begins | Progress::Fails => unreachable!(),
         }
@@ -178,9 +182,10 @@ impl Chain {
         if !self.permits(&decree) {
             return Err(ChainFault::NotPermitted);
         }
+        let decrees = self.followed_by(decree)?;
         Ok(Chain {
             id: self.id,
-            decrees: self.followed_by(decree)?,
+            decrees: SharedDecrees::make(decrees)?,
         })
     }
 
@@ -188,29 +193,22 @@ impl Chain {
     fn followed_by(&self, decree: Decree) -> Result<Vec<Decree>, AllocError>
         ensures { IfOk result (λ decrees. reverse decrees.items ≡ decree ∷ self.now.decrees) }
     {
-        let mut decrees = self.copies(self.decrees.len() + 1)?;
+        let earlier = self.decrees.list();
+        let mut decrees = Vec::with_capacity(self.decrees.alloc(), earlier.len() + 1)?;
+        for one in earlier {
+            decrees.push(one.copy()?)?;
+        }
         decrees.push(decree)?;
         Ok(decrees)
     }
 
-    /// The same decrees once more, the oldest first, in a vector with room for so many.
-    fn copies(&self, room: usize) -> Result<Vec<Decree>, AllocError>
-        ensures { IfOk result (λ decrees. reverse decrees.items ≡ self.now.decrees) }
-    {
-        let mut decrees = Vec::with_capacity(*self.decrees.allocator(), room)?;
-        for decree in &self.decrees {
-            decrees.push(decree.copy()?)?;
-        }
-        Ok(decrees)
-    }
-
-    /// The same chain once more.
+    /// The same chain once more; both share their decrees. It takes no memory; an `Err` is that there are 2^63 - 1 copies.
     pub fn copy(&self) -> Result<Chain, AllocError>
         ensures { IfOk result (λ chain. chain ≡ self.now) }
     {
         Ok(Chain {
             id: self.id,
-            decrees: self.copies(self.decrees.len())?,
+            decrees: self.decrees.share()?,
         })
     }
 
@@ -218,7 +216,7 @@ impl Chain {
     pub fn is(&self, other: &Chain) -> bool
         ensures { IsTrue result ↔ (self.now ≡ other.now) }
     {
-        self.id == other.id && are_same(&self.decrees, &other.decrees)
+        self.id == other.id && are_same(self.decrees.list(), other.decrees.list())
     }
 
     /// Its octets, format 1. Each number has its highest octet first.
@@ -226,9 +224,10 @@ impl Chain {
         ensures octets { IfOk result (λ octets. octets.items ≡ chain_octets self.now) }
         ensures fits { IfOk result (λ _. Fits self.now) }
     {
-        let mut octets = Vec::new(*self.decrees.allocator());
-        put_chain_head(&mut octets, self.id, self.decrees.len() as u16)?;
-        put_decrees(&mut octets, &self.decrees)?;
+        let decrees = self.decrees.list();
+        let mut octets = Vec::new(self.decrees.alloc());
+        put_chain_head(&mut octets, self.id, decrees.len() as u16)?;
+        put_decrees(&mut octets, decrees)?;
         Ok(octets)
     }
 
@@ -264,7 +263,7 @@ impl Chain {
         let decrees = decrees_of(alloc, head.count, head.decrees)?;
         Ok(Chain {
             id: head.id,
-            decrees,
+            decrees: SharedDecrees::make(decrees)?,
         })
     }
 
@@ -273,7 +272,7 @@ impl Chain {
         ensures decrees { reverse result.now ≡ self.now.decrees }
         ensures permitted { IsPermitted self.now.id self.now.decrees }
     {
-        &self.decrees
+        self.decrees.list()
     }
 
     /// What a proof takes of it: it is a permitted one, stands at one of 18 places, and begins with what was taken. The call does nothing.

@@ -10,6 +10,7 @@ mod marks;
 mod octets;
 mod progress;
 mod reading;
+mod shared_decrees;
 mod shared_submission;
 mod submission;
 mod writing;

@@ -31,7 +31,7 @@ use Rattle.node_kept.specs.declared.kept.Kept.{Kept as Holding}
 use Rattle.node_kept.specs.declared.step.Next.{Next}
 use Rattle.node_kept.specs.declared.step.Step.{Step}
 use Rattle.node_kept.specs.Keeping.{AreOf, IsTaken, acceptor_in, filed_as, kept_of, records_of}
-use Rattle.node_kept.specs.Steps.{Alters, IsAnswer, IsNext, IsStep, entries_after, installed, kept_then, rested_if}
+use Rattle.node_kept.specs.Steps.{Alters, IsAnswer, IsNext, IsStep, counted_if, entries_after, installed, kept_then, rested_if}
 use Rattle.node_kept.proofs.Queueing.{asked_same, held_same, place_same}
 use Rattle.node_kept.proofs.Entries.{message_looked_up, message_put, own_at, own_put, records_put}
 
@@ -66,7 +66,7 @@ holding k entries = record k { messages = record k.messages { entries = entries 
 pub next_entries : (k : Holding) (id : ℕ) (m : Filed) (next : Next) → IsNext k id m next →
     (installed k next).messages.entries ≡ with_value k.messages.entries id m
 next_entries k id m next is =
-    ap (λ (b : Bool). entries_after (rested_if b k.messages.entries) next.messages.items) is.drops ∙ is.entries
+    ap (λ (b : Bool). entries_after (rested_if b (counted_if next.counted k.messages.entries)) next.messages.items) is.drops ∙ is.entries
 
 pub nexts : (k : Holding) (id : ℕ) (m : Filed) (next : Next) → IsNext k id m next →
     kept_then k next ≡ kept_of (holding k (with_value k.messages.entries id m))
@@ -165,6 +165,7 @@ module _ (k : Holding) (slot : Slot) (taken new : Filed) (judgement : SlotRecord
       serial = subst (λ (n : ℕ). 1 ≤ n) (sym is_answer.next.serial) own.serial;
     };
     room = is_answer.next.room;
+    count = is_answer.next.count;
     place = place_same k.queue step.next.queue is_answer.next.queue;
   }
 

@@ -72,6 +72,7 @@ module _ (k : Holding) (id : ℕ) (new : Filed) (to : Message) (outputs : Output
       serial = subst (λ (n : ℕ). 1 ≤ n) (sym is_left.next.serial) own.serial;
     };
     room = is_left.next.room;
+    count = is_left.next.count;
     place = place_same k.queue step.next.queue is_left.next.queue;
   }
 

@@ -201,6 +201,7 @@ requeued_step k to step queue outputs is ticket place asked = record {
     serial = (is.own own).serial;
   };
   room = is.room;
+  count = is.count;
   place = place;
 }
 
@@ -241,5 +242,6 @@ arrived_step k to step serial new outputs is ticket room sound own least = recor
     serial = least;
   };
   room = is.room;
+  count = is.count;
   place = (room, subst (IsAbove (held_in k.queue)) (sym ticket) own.asked.above);
 }

@@ -25,7 +25,7 @@ use Rattle.node_kept.specs.declared.step.Step.{Step}
 use Rattle.synod_acceptor.specs.Packets.{packet_of}
 use Rattle.node_kept.specs.declared.turn_list.TurnList.{TurnList}
 use Rattle.node_kept.specs.Keeping.{AreOf, filed_as, kept_of, records_of}
-use Rattle.node_kept.specs.Steps.{Alters, HasRoom, IsStep, entries_after, granted_of, held_then, installed, kept_then, outputs_of, rested_if}
+use Rattle.node_kept.specs.Steps.{Alters, HasRoom, IsStep, MayCount, counted_if, entries_after, granted_of, held_then, installed, kept_then, outputs_of, rested_if}
 use Rattle.node_model.specs.Reported.{receipt_of}
 use Rattle.node_kept.specs.Ticking.{IsTurned, entries_turned, kept_turned}
 
@@ -39,6 +39,7 @@ pub record IsTickStep (k : Holding) (clock : ℕ) (turns : TurnList) (step : Ste
   pub clock_is : step.next.clock ≡ clock
   pub serial : step.next.serial ≡ k.serial
   pub given : step.next.given ≡ k.given
+  pub counted : step.next.counted ≡ None
   pub drops : step.next.drops_rounds ≡ true
   pub queue : step.next.queue ≡ changes.Expire clock
   pub messages : step.next.messages.items ≡ turns.messages.items
@@ -57,7 +58,7 @@ module _ (k : Holding) (moment : ℕ) (up : List ℕ → Bool) (turns : TurnList
   Clock = max k.clock moment
 
   entries_then : (installed k step.next).messages.entries ≡ entries_turned k turns
-  entries_then = λ i. entries_after (rested_if (is.drops i) k.messages.entries) (is.messages i)
+  entries_then = λ i. entries_after (rested_if (is.drops i) (counted_if (is.counted i) k.messages.entries)) (is.messages i)
 
   saved_then : (slot : Slot) → records_of (installed k step.next).messages.entries slot ≡ records_of k.messages.entries slot
   saved_then slot = ap (λ (es : List (ℕ × Filed)). records_of es slot) entries_then ∙ turned.saved slot
@@ -105,6 +106,7 @@ module _ (k : Holding) (moment : ℕ) (up : List ℕ → Bool) (turns : TurnList
       serial = subst (λ (n : ℕ). 1 ≤ n) (sym is.serial) own.serial;
     };
     room = is.room;
+    count = subst (MayCount k.messages.entries) (sym is.counted) tt;
     place = subst (HasPlace k.queue) (sym is.queue) tt;
   }
 

@@ -1,22 +1,27 @@
 -- A vote that is told, and what becomes known by it, are taken in as in the model.
-use Rattle.std.proofs.Common.{◌≡◌, ℕ, Bool, true, false, refl, sym, ap, subst, ◌∙◌}
+use Rattle.std.proofs.Common.{◌≡◌, ℕ, Bool, true, false, refl, sym, ap, subst, ◌∙◌, arith}
 use Rattle.std.specs.Prelude.{◌&&◌, if◌then◌else◌}
 use Rattle.node_model.specs.Kept.{message_at, with_message}
 use Rattle.node_model.specs.Learner.{heard, makes_known}
 use Rattle.node_model.specs.Message.{Message}
 use Rattle.node_model.specs.Outputs.{nothing, Stepped, leaves}
 use Rattle.node_model.specs.Packets.{known_then, on_known, on_voted, vote_concerns}
+use Rattle.shelf.specs.Shelved.{value_at, with_value}
 use Rattle.synod_acceptor.proofs.Slots.{is_same}
 use Rattle.synod_acceptor.specs.Votes.{slot_in, vote_of}
 use Rattle.synod_acceptor.specs.declared.vote.Vote.{Vote as Cast}
 use Rattle.node_parts.specs.Hearing.{known_if}
 use Rattle.node_parts.specs.declared.message.Message.{Message as Filed}
+use Rattle.node_parts.specs.Counting.{recounted_at, recounted_in}
 use Rattle.node_parts.specs.Messages.{IsHeard, message_of}
+use Rattle.node_parts.proofs.Counting.{recounted_there}
 use Rattle.node_kept.specs.declared.kept.Kept.{Kept as Holding}
+use Rattle.node_kept.specs.declared.step.Counted.{Counted}
 use Rattle.node_kept.specs.declared.step.Step.{Step}
 use Rattle.node_kept.specs.Keeping.{AreOwn, IsAs, IsTaken, kept_of}
-use Rattle.node_kept.specs.Steps.{IsLeft, IsStep}
-use Rattle.node_kept.specs.Voting.{id_concerns, voted_in}
+use Rattle.node_kept.specs.Steps.{IsCounting, IsLeft, IsStep, MayCount, counted_if, entries_after}
+use Rattle.node_kept.specs.Voting.{IsCountedSo, id_concerns, voted_in}
+use Rattle.node_kept.proofs.Answering.{taken_there}
 use Rattle.node_kept.proofs.Leaving.{as_changed, left}
 
 -- ---- whether it concerns the node
@@ -61,3 +66,30 @@ module _ (k : Holding) (sender : ℕ) (vote : Cast) (taken new : Filed) (grows :
   pub voted_known : grows ≡ true → IsStep k (on_known k.setup (kept_of k) id m vote.chain.decrees) step →
       IsStep k (voted_in k.setup (kept_of k) sender (slot_in vote) (vote_of vote)) step
   voted_known is_known is = subst (λ (s : Stepped). IsStep k s step) (ap heard_if (sym is_known) ∙ voted_is) is
+
+-- a vote that is counted anew
+pub voted_anew : (k : Holding) (sender : ℕ) (vote : Cast) (c : Counted) (step : Step) → AreOwn k → id_concerns k.setup (kept_of k) vote.chain.id ≡ true →
+    IsCountedSo k sender vote c → IsCounting k c step → IsStep k (voted_in k.setup (kept_of k) sender (slot_in vote) (vote_of vote)) step
+voted_anew k sender vote c step own test so is =
+    let entries = k.messages.entries in
+    let new = recounted_in so.message c.recount in
+    let counted : recounted_at entries c.id c.recount ≡ with_value entries vote.chain.id new =
+    ap (λ (id : ℕ). recounted_at entries id c.recount) so.about ∙ recounted_there entries vote.chain.id c.recount so.message so.kept in
+    voted_only k sender vote so.message new false step own test (taken_there k vote.chain.id so.message so.kept) so.heard.heard refl (record {
+      gives = is.gives;
+      change = is.change;
+      next = record {
+        clock = is.clock;
+        serial = is.serial;
+        given = is.given;
+        drops = is.drops;
+        queue = is.queue;
+        entries = (λ i. entries_after (counted_if (is.counted i) entries) (is.messages i)) ∙ counted;
+        count = subst (MayCount entries) (sym is.counted) (record {
+          message = so.message;
+          kept = ap (value_at entries) so.about ∙ so.kept;
+          fits = so.heard.fits;
+        });
+        room = rw is.messages (omega arith, omega arith);
+      };
+    })

@@ -33,10 +33,12 @@ use Rattle.node_parts.specs.declared.message.Message.{Message as Filed}
 use Rattle.node_parts.specs.declared.message_room.MessageRoom.{MessageRoom}
 use Rattle.node_parts.specs.declared.outputs.Outputs.{Outputs as Sent}
 use Rattle.node_parts.specs.Attempting.{reason_of}
+use Rattle.node_parts.specs.Counting.{IsCountable, recounted_at}
 use Rattle.node_parts.specs.Living.{Listed}
 use Rattle.node_parts.specs.Messages.{changed_by, rested_entry}
 use Rattle.node_kept.specs.declared.kept.Kept.{Kept as Holding}
 use Rattle.node_kept.specs.declared.queue_change.QueueChange.TheVariants as changes
+use Rattle.node_kept.specs.declared.step.Counted.{Counted}
 use Rattle.node_kept.specs.declared.step.Next.{Next}
 use Rattle.node_kept.specs.declared.step.Put.{Put}
 use Rattle.node_kept.specs.declared.step.Step.{Step}
@@ -88,13 +90,27 @@ entries_after entries (first ∷ others) = with_value (entries_after entries oth
 abbrev pub rested_if : Bool → List (ℕ × Filed) → List (ℕ × Filed)
 rested_if drops entries = if drops then map rested_entry entries else entries
 
+-- with a vote that is counted anew, if one is
+abbrev pub counted_if : Option Counted → List (ℕ × Filed) → List (ℕ × Filed)
+counted_if None entries = entries
+counted_if (Some c) entries = recounted_at entries c.id c.recount
+
+-- the message is kept, and its learner has that count
+abbrev pub MayCount : List (ℕ × Filed) → Option Counted → Type 0
+MayCount entries None = Unit {0}
+MayCount entries (Some c) = IsCountable entries c.id c.recount
+
+-- what is kept of all messages after it
+abbrev pub entries_then : List (ℕ × Filed) → Next → List (ℕ × Filed)
+entries_then entries next = entries_after (rested_if next.drops_rounds (counted_if next.counted entries)) next.messages.items
+
 -- what is kept after it, but for the requests that wait
 abbrev pub installed : Holding → Next → Holding
 installed k next = record k {
   clock = next.clock;
   serial = next.serial;
   given = next.given;
-  messages = record k.messages { entries = entries_after (rested_if next.drops_rounds k.messages.entries) next.messages.items };
+  messages = record k.messages { entries = entries_then k.messages.entries next };
 }
 
 -- the requests that wait after it, and what is kept with them
@@ -110,7 +126,7 @@ pub record IsInstalled (old : Holding) (next : Next) (new : Holding) : Type 0 wh
   pub clock : new.clock ≡ next.clock
   pub serial : new.serial ≡ next.serial
   pub given : new.given ≡ next.given
-  pub entries : new.messages.entries ≡ entries_after (rested_if next.drops_rounds old.messages.entries) next.messages.items
+  pub entries : new.messages.entries ≡ entries_then old.messages.entries next
   pub queue : held_in new.queue ≡ requeued old.setup.nodes (held_in old.queue) next.queue
 
 -- there is room for its messages, and to list them
@@ -134,7 +150,8 @@ pub record IsNext (k : Holding) (id : ℕ) (m : Filed) (next : Next) : Type 0 wh
   pub given : next.given ≡ k.given
   pub drops : next.drops_rounds ≡ false
   pub queue : next.queue ≡ changes.Same
-  pub entries : entries_after k.messages.entries next.messages.items ≡ with_value k.messages.entries id m
+  pub entries : entries_after (counted_if next.counted k.messages.entries) next.messages.items ≡ with_value k.messages.entries id m
+  pub count : MayCount k.messages.entries next.counted
   pub room : HasRoom k.messages next
 
 -- what is kept after it is the node's own
@@ -158,6 +175,7 @@ pub record IsStep (k : Holding) (to : Stepped) (step : Step) : Type 0 where
   pub own : AreOwn k → AreOwnThen k step.next
   pub room : HasRoom k.messages step.next
   pub place : HasPlace k.queue step.next.queue
+  pub count : MayCount k.messages.entries step.next.counted
 
 -- what is given out of an attempt that is granted is the known chain of its message
 pub record IsKnown (k : Kept) (id : ℕ) (chain : Chain) : Type 0 where
@@ -185,6 +203,18 @@ pub record IsAnswer (k : Holding) (id : ℕ) (m : Filed) (verdict : Verdict) (st
 
 abbrev pub giving : List Packet → List Receipt → Outputs
 giving packets receipts = record nothing { packets = packets; receipts = receipts }
+
+-- it counts a vote anew, and does nothing else
+pub record IsCounting (k : Holding) (c : Counted) (step : Step) : Type 0 where
+  pub gives : outputs_of step.outputs ≡ nothing
+  pub change : step.change ≡ None
+  pub clock : step.next.clock ≡ k.clock
+  pub serial : step.next.serial ≡ k.serial
+  pub given : step.next.given ≡ k.given
+  pub counted : step.next.counted ≡ Some c
+  pub drops : step.next.drops_rounds ≡ false
+  pub queue : step.next.queue ≡ changes.Same
+  pub messages : step.next.messages.items ≡ []
 
 -- it gives this out, saves nothing, and keeps this message
 pub record IsLeft (k : Holding) (id : ℕ) (m : Filed) (outputs : Outputs) (step : Step) : Type 0 where

@@ -1,6 +1,6 @@
 //! What a node keeps.
 
-ghost use Rattle.std.specs.Prelude.{◌≡◌, ℕ, suc, ◌≤◌, ◌&&◌, length, [], None, IfErr, IfOk, IsOk, OnOk, not, option_map, false};
+ghost use Rattle.std.specs.Prelude.{◌≡◌, ℕ, suc, ◌≤◌, ◌&&◌, length, [], None, IfErr, IfOk, IfSome, IsOk, OnOk, not, option_map, false};
 ghost use Rattle.std.specs.Option.{option_copied};
 ghost use Rattle.mc_model.specs.node.Setup.{Setup as SetupValue};
 ghost use Rattle.mc_model.specs.synod.Acceptor.{Records};
@@ -22,14 +22,14 @@ ghost use Rattle.node_kept.specs.Listing.{ListsRecorded};
 ghost use Rattle.node_kept.specs.Queueing.{HasPlace, requeued};
 ghost use Rattle.node_kept.specs.declared.queue_change.QueueChange.TheVariants.{Same};
 ghost use Rattle.waiting_requests.specs.Waiting.{held_in};
-ghost use Rattle.node_kept.specs.Voting.{id_concerns, receipt_if, voted_in};
+ghost use Rattle.node_kept.specs.Voting.{IsCountedSo, id_concerns, receipt_if, voted_in};
 ghost use Rattle.node_kept.specs.Preparing.{IsPrepared};
-ghost use Rattle.node_kept.specs.Steps.{HasRoom, IsAnswer, IsFault, IsInstalled, IsLeft, IsNext, IsStep, entries_after, giving, refused_by, rested_if};
+ghost use Rattle.node_kept.specs.Steps.{HasRoom, IsAnswer, IsCounting, IsFault, IsInstalled, IsLeft, IsNext, IsStep, MayCount, counted_if, entries_after, giving, refused_by, rested_if};
 ghost use Rattle.node_model.specs.Reported.{receipt_of};
 
 use crate::queue_change::QueueChange;
 use crate::setup::Setup;
-use crate::step::{Foreseen, Next, Put, Step};
+use crate::step::{Counted, Foreseen, Next, Put, Step};
 use fate_chain::{Author, Chain};
 use mc_types::{Ballot, Incarnation, Moment, MsgId, NodeNo, Slot};
 use node_parts::{Input, Message, MessageShelf, Outputs, StepFault, sender};
@@ -180,12 +180,14 @@ impl Kept {
     pub fn install(&mut self, next: Next)
         requires room { HasRoom self.old.messages next }
         requires place { HasPlace self.old.queue next.queue }
+        requires count { MayCount self.old.messages.entries next.counted }
         ensures { IsInstalled self.old next self.new }
     {
         let Next {
             clock,
             serial,
             given,
+            counted,
             drops_rounds,
             queue,
             messages,
@@ -198,6 +200,7 @@ impl Kept {
             self.messages.make_room(room);
         }
         requeue(&mut self.queue, queue, self.setup.nodes);
+        count_if(&mut self.messages, counted);
         rest_if(&mut self.messages, drops_rounds);
         put_each(&mut self.messages, messages);
     }
@@ -231,6 +234,7 @@ impl Kept {
         ensures clock { result.clock ≡ self.now.clock }
         ensures serial { result.serial ≡ self.now.serial }
         ensures given { result.given ≡ self.now.given }
+        ensures counted { result.counted ≡ None }
         ensures drops { result.drops_rounds ≡ false }
         ensures queue { result.queue ≡ Same }
         ensures messages { result.messages.items ≡ [] }
@@ -240,6 +244,7 @@ impl Kept {
             clock: self.clock,
             serial: self.serial,
             given: self.given,
+            counted: None,
             drops_rounds: false,
             queue: QueueChange::Same,
             messages: Vec::new(self.alloc),
@@ -318,12 +323,39 @@ impl Kept {
         if !self.concerns(id) {
             return Ok(self.same());
         }
+        if let Some(counted) = self.counted(from, vote) {
+            return Ok(self.counting(counted));
+        }
         let mut message = self.taken(id)?;
         let had_fate = message.has_fate(id);
         if !message.heard(from, vote)? {
             return self.leave(id, message, None, None);
         }
         self.learned(message, had_fate, &vote.chain)
+    }
+
+    /// How a vote that a node tells of is counted, if its chain was voted for at its ballot before, and does not become known by it. It takes
+    /// no memory.
+    fn counted(&self, from: NodeNo, vote: &Vote) -> Option<Counted>
+        ensures { IfSome result (IsCountedSo self.now from vote.now) }
+    {
+        let id = vote.chain.id();
+        let message = self.find(id)?;
+        let recount = message.recount(from, vote)?;
+        Some(Counted { id, recount })
+    }
+
+    /// The step that counts a vote so, and does nothing else. It takes no memory.
+    fn counting(&self, counted: Counted) -> Step
+        ensures { IsCounting self.now counted result }
+    {
+        let mut next = self.unchanged();
+        next.counted = Some(counted);
+        Step {
+            outputs: Outputs::nothing(self.alloc),
+            change: None,
+            next,
+        }
     }
 
     /// Whether votes on the message of an id concern it: of its own messages only those that it has taken do.
@@ -550,6 +582,18 @@ fn requeue(queue: &mut Queue, change: QueueChange, nodes: u8)
         QueueChange::Remove(ticket) => queue.remove(ticket),
         QueueChange::Settle(chain) => queue.settle(nodes, &chain),
         QueueChange::Expire(clock) => queue.expire(clock),
+    }
+}
+
+/// Counts a vote anew, if one is to be counted so. It takes no memory.
+fn count_if(kept: &mut MessageShelf, counted: Option<Counted>)
+    requires { MayCount kept.old.entries counted }
+    ensures entries { kept.new.entries ≡ counted_if counted kept.old.entries }
+    ensures room { kept.new.room ≡ kept.old.room }
+    ensures listings { kept.new.listings ≡ kept.old.listings }
+{
+    if let Some(Counted { id, recount }) = counted {
+        kept.count_anew(id, recount);
     }
 }
 

@@ -2,7 +2,7 @@
 
 use crate::queue_change::QueueChange;
 use mc_types::{Moment, MsgId};
-use node_parts::{Message, MessageRoom, Outputs};
+use node_parts::{Message, MessageRoom, Outputs, Recount};
 use pdu_codec::SystemId;
 use synod_acceptor::Change;
 
@@ -13,13 +13,22 @@ pub struct Put {
     pub message: Box<Message>,
 }
 
-/// What is kept after a step: the clock, the serial of the next message, how many tickets are given, whether all rounds end, what becomes of the requests that wait, and then
-/// each message that is not kept as it was, with room for them, if room is wanted. Of several messages of an id the first counts.
+/// How a vote on the message of an id is counted, if its chain was voted for at its ballot before.
+#[derive(Clone, Copy)]
+pub struct Counted {
+    pub id: MsgId,
+    pub recount: Recount,
+}
+
+/// What is kept after a step: the clock, the serial of the next message, how many tickets are given, the vote that is counted anew, if one is,
+/// whether all rounds end, what becomes of the requests that wait, and then each message that is not kept as it was, with room for them, if
+/// room is wanted. Of several messages of an id the first counts.
 #[derive(Drop)]
 pub struct Next {
     pub clock: Moment,
     pub serial: u32,
     pub given: u64,
+    pub counted: Option<Counted>,
     pub drops_rounds: bool,
     pub queue: QueueChange,
     pub messages: Vec<Put>,

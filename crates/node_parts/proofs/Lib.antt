@@ -8,3 +8,4 @@ pub mod Decided
 pub mod Rising
 pub mod IdLists
 pub mod Living
+pub mod Counting

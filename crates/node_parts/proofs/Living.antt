@@ -1,7 +1,8 @@
 -- The list of the messages that are live, as messages are put and rest.
-use Rattle.std.proofs.Common.{◌≡◌, ◌⊎◌, ℕ, suc, ◌+◌, ◌-◌, ◌<◌, ◌≤◌, Bool, true, List, [], ◌∷◌, length, map, Option, Some, None, refl, sym}
+use Rattle.std.proofs.Common.{◌≡◌, ◌⊎◌, ℕ, suc, ◌+◌, ◌-◌, ◌<◌, ◌≤◌, Bool, true, false, cond, List, [], ◌∷◌, length, map, Option, Some, None, refl, sym}
 use Rattle.std.proofs.Common.{ap, subst, ◌∙◌, inl, inr, arith}
-use Rattle.std.specs.Prelude.{filter, not, option_map}
+use Rattle.std.specs.Prelude.{◌==◌, filter, not, option_map}
+use Rattle.std.specs.BTreeMap.{is_at}
 use Rattle.std.specs.BTreeSet.{insert_key}
 use Rattle.std.specs.List.Sorted.{IsStrictlySortedBy}
 use Rattle.std.specs.Map.{keys_of}
@@ -9,12 +10,15 @@ use Rattle.std.specs.Ordering.{match_ordering, nat_cmp}
 use Rattle.std.specs.declared.cmp.Ordering.{Ordering}
 use Rattle.std.specs.declared.cmp.Ordering.TheVariants.{Less, Equal, Greater}
 use Rattle.std.proofs.lemmas.List.{length-map}
-use Rattle.std.proofs.lemmas.Bool.{cases_Bool}
+use Rattle.std.proofs.lemmas.Bool.{cases_Bool, eq-eqb, true≢false}
+use Rattle.std.proofs.lemmas.Bool.Decides.{Decides-eqb}
 use Rattle.fate_chain.specs.declared.decree.Author.{Author}
 use Rattle.mc_model.specs.synod.Lists.{In}
-use Rattle.node_model.proofs.Places.{elsewhere}
+use Rattle.node_model.proofs.Keys.{same_key}
+use Rattle.node_model.proofs.Places.{elsewhere, here}
 use Rattle.waiting_requests.specs.Numbers.{IsLeastFrom}
 use Rattle.shelf.specs.Shelved.{value_at, with_value}
+use Rattle.shelf.proofs.Entries.{still_ascends}
 use Rattle.shelf.proofs.Visited.{same_keys, value_visited}
 use Rattle.node_parts.specs.declared.message.Message.{Message as Filed}
 use Rattle.node_parts.specs.Living.{AreListed, IsNextLive, IsSettled, is_decided, is_live}
@@ -89,6 +93,58 @@ module _ (entries : List (ℕ × Filed)) (live : List ℕ) (room id : ℕ) (m : 
 
 pub listings_left : (entries : List (ℕ × Filed)) (room id : ℕ) (m : Filed) → room - length entries ≤ (room - length (with_value entries id m)) + 1
 listings_left entries room id m = let longer = one_longer entries id m in omega (arith, longer)
+
+-- ---- a message that is kept is changed
+
+listed_key : (entries : List (ℕ × Filed)) (id : ℕ) (m : Filed) → value_at entries id ≡ Some m → In id (keys_of entries)
+listed_key [] id m found = absurd (cc)
+listed_key (e ∷ es) id m found = by_test (is_at (nat_cmp id) e.0) refl found (listed_key es id m)
+  where
+    by_test : (test : Bool) → is_at (nat_cmp id) e.0 ≡ test → cond test (Some e.1) (value_at es id) ≡ Some m →
+        (value_at es id ≡ Some m → In id (keys_of es)) → In id (e.0 ∷ keys_of es)
+    by_test true at is rest = inl (same_key id e.0 at)
+    by_test false at is rest = inr (rest is)
+
+module _ (entries : List (ℕ × Filed)) (live : List ℕ) (room id : ℕ) (m to : Filed) (listed : AreListed entries live room)
+    (ascends : IsStrictlySortedBy nat_cmp (keys_of entries)) (found : value_at entries id ≡ Some m) where
+  abbrev Changed : List (ℕ × Filed)
+  Changed = with_value entries id to
+
+  was_key : (other : ℕ) → In other (keys_of Changed) → In other (keys_of entries)
+  was_key other among = elim (in_put other id (keys_of entries) (subst (In other) (keys_put entries id to) among)) [
+    | inl same ↦ subst (λ (key : ℕ). In key (keys_of entries)) (sym same) (listed_key entries id m found)
+    | inr there ↦ there
+  ]
+
+  pub changed_length : length Changed ≡ length entries
+  changed_length =
+      let rise = rise_of (keys_of entries) ascends in
+      let rise_then = rise_of (keys_of Changed) (still_ascends entries id to ascends) in
+      let fewer = no_more (keys_of Changed) (keys_of entries) rise_then rise was_key in
+      let more = no_more (keys_of entries) (keys_of Changed) rise rise_then (λ other among. in_keys entries id other to (inr among)) in
+      omega (arith, fewer, more, key_length Changed, key_length entries)
+
+  -- what was settled is so
+  pub listed_changed : (IsSettled id m → IsSettled id to) → AreListed Changed live room
+  listed_changed settled = record {
+    rising = listed.rising;
+    kept = λ other among. in_keys entries id other to (inr (listed.kept other among));
+    others = others;
+    fits = let fits = listed.fits in omega (arith, fits, changed_length);
+  }
+    where
+      others : (other : ℕ) (n : Filed) → value_at Changed other ≡ Some n → (In other live → ⊥) → IsSettled other n
+      others other n at new = elim (cases_Bool (other == id)) [
+        | inl same ↦
+            let ids : other ≡ id = (Decides-eqb other id).0 same in
+            let put : Some n ≡ Some to = sym at ∙ subst (λ (key : ℕ). value_at Changed key ≡ Some to) (sym ids) (here id to entries) in
+            let is : to ≡ n = cc in
+            subst (λ (key : ℕ). IsSettled key n) (sym ids) (subst (IsSettled id) is
+            (settled (listed.others id m found (λ among. new (subst (λ (key : ℕ). In key live) (sym ids) among)))))
+        | inr differs ↦
+            let apart : other ≡ id → ⊥ = λ ids. true≢false (sym (eq-eqb other id ids) ∙ differs) in
+            listed.others other n (sym (elsewhere id to other apart entries) ∙ at) new
+      ]
 
 -- ---- each message is visited
 

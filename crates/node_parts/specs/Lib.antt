@@ -5,6 +5,7 @@ pub mod Lists
 pub mod Copies
 pub mod Attempting
 pub mod Messages
+pub mod Counting
 pub mod Renewal
 pub mod Living
 pub mod Told

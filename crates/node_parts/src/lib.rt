@@ -24,4 +24,5 @@ pub use message_room::MessageRoom;
 pub use message_shelf::MessageShelf;
 pub use outputs::Outputs;
 pub use ruling::Ruling;
+pub use synod_learner::Recount;
 pub use turn::Turn;

@@ -19,6 +19,8 @@ ghost use Rattle.delivery.specs.Kept.{outcome_kept};
 ghost use Rattle.tick_rules.specs.Attempts.{closed_as};
 ghost use Rattle.tick_rules.specs.Standpoints.{kept_of, setup_of, start_of};
 ghost use Rattle.synod_learner.specs.Counts.{known_in};
+ghost use Rattle.synod_learner.specs.Hearing.{IsRecount};
+ghost use Rattle.node_parts.specs.Counting.{IsHeardAnewFor, recounted_in};
 ghost use Rattle.node_parts.specs.Attempting.{IsBacked, IsBy, IsTried, granted_in, reason_of};
 ghost use Rattle.node_model.specs.Ticks.{ruled};
 ghost use Rattle.node_model.specs.Rules.{first_rule, known_rule};
@@ -44,7 +46,7 @@ use mc_types::{Ballot, MsgId, NodeNo, Slot};
 use pdu_codec::SystemId;
 use std::alloc::{AllocError, Global};
 use synod_acceptor::{Acceptor, Change, Packet, Record, Report, Verdict, Vote};
-use synod_learner::Learner;
+use synod_learner::{Learner, Recount};
 use synod_proposer::Proposer;
 use tick_rules::{Attempted, Closing, Due, Standpoint, follow};
 use waiting_requests::Queue;
@@ -139,6 +141,22 @@ impl Message {
             end_reached(&mut self.proposer, &vote.chain);
         }
         Ok(grows)
+    }
+
+    /// How a vote that a node tells of is counted, if its chain was voted for at its ballot before, and does not become known by it. None if the
+    /// vote is the first of its chain and ballot, or makes its chain known. It takes no memory.
+    pub fn recount(&self, from: NodeNo, vote: &Vote) -> Option<Recount>
+        ensures { IsHeardAnewFor self.now from vote.now result }
+    {
+        self.learner.recount(from, vote)
+    }
+
+    /// Counts a vote as `recount` has it of this message as it is. It takes no memory.
+    pub fn count_anew(&mut self, recount: Recount)
+        requires { IsRecount self.old.learner recount }
+        ensures { self.new ≡ recounted_in self.old recount }
+    {
+        self.learner.count_anew(recount);
     }
 
     /// Whether a final state of the message of this id is known. It takes no memory.

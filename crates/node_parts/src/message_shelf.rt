@@ -12,6 +12,7 @@ ghost use Rattle.std.specs.Vec.{vec_capacity};
 ghost use Rattle.mc_model.specs.synod.Lists.{In};
 ghost use Rattle.waiting_requests.specs.Numbers.{IsLeastFrom};
 ghost use Rattle.shelf.specs.Shelved.{Serves, value_at, with_value};
+ghost use Rattle.node_parts.specs.Counting.{IsCountable, recounted_at};
 ghost use Rattle.node_parts.specs.Living.{AreRising, IsNextLive, IsPlaceOf, is_live};
 ghost use Rattle.node_parts.specs.Renewal.{renewed};
 ghost use Rattle.node_parts.specs.Messages.{rested_entry};
@@ -26,6 +27,7 @@ use shelf::Shelf;
 use std::alloc::{AllocError, Global};
 use std::marker::Model;
 use std::mem;
+use synod_learner::Recount;
 
 /// The messages that a node keeps, by their ids, with a list of those that are live: a message that is not on the list has a final state,
 /// the node's own votes do not go beyond that, and no round of it runs. So no rule of a tick fits it while no request waits that asks of
@@ -121,6 +123,17 @@ impl MessageShelf {
         enlist(&mut self.live, id);
     }
 
+    /// Counts a vote anew on the message of this id, which is kept. It takes no memory.
+    pub fn count_anew(&mut self, id: MsgId, recount: Recount)
+        requires { IsCountable self.old.entries id recount }
+        ensures entries { self.new.entries ≡ recounted_at self.old.entries id recount }
+        ensures room { self.new.room ≡ self.old.room }
+        ensures listings { self.new.listings ≡ self.old.listings }
+    {
+        self.shelf.ascends();
+        count_on(&mut self.shelf, id, recount);
+    }
+
     /// Ends the round of each message, and takes those that are decided off the list. It takes no memory.
     pub fn rest(&mut self)
         ensures entries { self.new.entries ≡ map rested_entry self.old.entries }
@@ -136,6 +149,17 @@ impl MessageShelf {
         ensures { self.new.entries ≡ map (λ entry. (entry.0, renewed me entry.1)) self.old.entries }
     {
         self.shelf.for_each(&Renewal { me });
+    }
+}
+
+/// Counts a vote anew on the message of this id, which is kept.
+fn count_on(shelf: &mut Shelf<Message>, id: MsgId, recount: Recount)
+    requires { IsCountable shelf.old.entries id recount }
+    ensures entries { shelf.new.entries ≡ recounted_at shelf.old.entries id recount }
+    ensures room { shelf.new.room ≡ shelf.old.room }
+{
+    if let Some(message) = shelf.get_mut(id.number()) {
+        message.count_anew(recount);
     }
 }
 

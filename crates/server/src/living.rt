@@ -2,7 +2,7 @@
 
 use crate::ending::Ending;
 use crate::shared::Shared;
-use crate::shift::Shift;
+use crate::shift::{ALL_LOOKS, Shift};
 use crate::starting::{start_attendant, start_packets, start_ticks};
 use crate::station::{Station, Wake};
 use crate::ticking::tick_first;
@@ -104,7 +104,7 @@ fn attend_all<
 fn feed_first<S: StableStore, L: Begins, R: Wait + Eprint>(shift: &Shift<'_, S, L, R>) {
     let mut guard = shift.station.site.lock(shift.rt);
     let site = &mut *guard;
-    if let Err(trouble) = shift.feed(site) {
+    if let Err(trouble) = shift.feed(site, ALL_LOOKS) {
         shift.meet(trouble);
     }
 }

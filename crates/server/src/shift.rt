@@ -6,10 +6,16 @@ use crate::shared::Shared;
 use crate::site::Site;
 use crate::station::Station;
 use crate::trouble::Trouble;
-use mc_types::NodeNo;
+use mc_types::{MsgId, NodeNo};
 use node_threads::{Begins, Life, Seat};
 use stable_store::StableStore;
 use std::sync::Wait;
+
+/// How many messages are looked at behind a delivery: it frees one place, and a tick looks at all of them.
+pub(crate) const FEW_LOOKS: usize = 1_000;
+
+/// As many as there are message_ids of a cluster.
+pub(crate) const ALL_LOOKS: usize = usize::MAX;
 
 /// What the threads of a node share in one of its lives.
 #[derive(Drop)]
@@ -78,21 +84,37 @@ impl<S: StableStore, L: Begins, R: Wait + Eprint> Shift<'_, S, L, R> {
         self.shared.seats.give_back(self.rt, seat);
     }
 
-    /// Has the workers of a node deliver what may be granted there, as far as sessions have places and no delivery is held back. A refusal is told.
-    pub(crate) fn feed(&self, site: &mut Site) -> Result<(), Trouble> {
+    /// Has the workers of a node deliver what may be granted there, as far as sessions have places and no delivery is held back. It goes on where it stopped the
+    /// last time, behind the last message from the first on again, and looks at so many messages at most. A refusal is told.
+    pub(crate) fn feed(&self, site: &mut Site, most: usize) -> Result<(), Trouble> {
         if self.holds() {
             return Ok(());
         }
-        let cluster = &self.shared.cluster;
-        let mut after = None;
-        while let Some(id) = cluster.grantable_after(self.rt, self.node(), after)? {
-            after = Some(id);
-            if site.carries(id) {
-                continue;
+        let mut ends = 0;
+        for _ in 0..most {
+            if ends > 1 || !site.has_place() {
+                break;
             }
-            if let Some(attempt) = cluster.attempt(self.rt, self.node(), id)? {
-                site.offer(self.rt, attempt)?;
+            let next = self
+                .shared
+                .cluster
+                .grantable_after(self.rt, self.node(), site.fed())?;
+            site.feed_from(next);
+            match next {
+                Some(id) => self.offer(site, id)?,
+                None => ends += 1,
             }
+        }
+        Ok(())
+    }
+
+    /// Has a worker deliver a message that may be granted, if a session of its account has a place, and no one does so already.
+    fn offer(&self, site: &mut Site, id: MsgId) -> Result<(), Trouble> {
+        if site.carries(id) {
+            return Ok(());
+        }
+        if let Some(attempt) = self.shared.cluster.attempt(self.rt, self.node(), id)? {
+            site.offer(self.rt, attempt)?;
         }
         Ok(())
     }

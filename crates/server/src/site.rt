@@ -29,6 +29,8 @@ pub(crate) struct Site {
     pub(crate) service: Service,
     connections: BTreeMap<u8, Arc<Connection>>,
     carried: BTreeMap<u64, Carriage>,
+    // Behind which message those come that are looked at next for a delivery; none, if they begin with the first.
+    fed: Option<MsgId>,
     clock: Moment,
     pub(crate) tally: Tally,
 }
@@ -41,6 +43,7 @@ impl Site {
             service: Service::none(alloc),
             connections: BTreeMap::new(alloc),
             carried: BTreeMap::new(alloc),
+            fed: None,
             clock,
             tally: Tally::zero(),
         }
@@ -217,6 +220,26 @@ impl Site {
     /// Whether a delivery of a message is under way.
     pub(crate) fn carries(&self, id: MsgId) -> bool {
         self.carried.contains_key(&id.number())
+    }
+
+    /// Behind which message those come that are looked at next for a delivery; none, if they begin with the first.
+    pub(crate) fn fed(&self) -> Option<MsgId> {
+        self.fed
+    }
+
+    /// Those behind this message are looked at next for a delivery; all, from the first on, if it is none.
+    pub(crate) fn feed_from(&mut self, fed: Option<MsgId>) {
+        self.fed = fed;
+    }
+
+    /// Whether some session may receive and has a place for a deliver_sm in its window.
+    pub(crate) fn has_place(&self) -> bool {
+        for (_, session) in self.service.sessions() {
+            if session.push_refusal().is_none() {
+                return true;
+            }
+        }
+        false
     }
 
     /// An attempt may be granted: it is given to a worker of the lowest numbered session of its account that has a place in its window. Nothing comes of it if

@@ -5,7 +5,7 @@ ghost use Rattle.std.specs.Prelude.{◌≡◌};
 use crate::berth::Berth;
 use crate::connection::Connection;
 use crate::gate::BerthGate;
-use crate::shift::Shift;
+use crate::shift::{FEW_LOOKS, Shift};
 use crate::trouble::Trouble;
 use connection_parts::Job;
 use node_threads::{Begins, Seat};
@@ -89,7 +89,7 @@ fn free<S: StableStore, L: Begins, R: Wait + Eprint>(
     let mut guard = shift.station.site.lock(shift.rt);
     let site = &mut *guard;
     site.delivered(connection, job, is_sent);
-    shift.feed(site)
+    shift.feed(site, FEW_LOOKS)
 }
 
 /// The packets that the last step of a seat sent are handed in to all nodes.

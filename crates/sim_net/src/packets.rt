@@ -104,12 +104,14 @@ impl Packets {
         }
     }
 
-    /// The packets that were sent elsewhere were sent next, in their order; there none is left. An `Err` is want of memory; then nothing changes.
+    /// The packets that were sent elsewhere were sent next, in their order; there none is left. An `Err` is want of memory, which comes only if there is no
+    /// room for them; then nothing changes.
     pub fn take_from(&mut self, elsewhere: &mut Packets) -> Result<(), AllocError>
         ensures sent { OnOk result (self.new.sent ≡ self.old.sent ++ elsewhere.old.sent) }
         ensures none { OnOk result (elsewhere.new.sent ≡ []) }
         ensures stays { OnErr result (self.new.sent ≡ self.old.sent) }
         ensures waits { OnErr result (elsewhere.new.sent ≡ elsewhere.old.sent) }
+        ensures memory { OnErr result (self.old.room < length elsewhere.old.sent) }
     {
         self.sent.append(&mut elsewhere.sent)
     }

@@ -17,11 +17,12 @@ pub(crate) fn count(failed: &mut u64) -> StoreFault
     StoreFault::Device
 }
 
-/// What the fault is told as. A store whose connection may be shut is spent.
+/// What the fault is told as: Memory exactly if there was none. A store whose connection may be shut is spent.
 pub(crate) fn settle(spent: &mut bool, failed: &mut u64, fault: Fault) -> StoreFault
     ensures shut { fault ≡ faults.Shut → spent.new ≡ true }
     ensures open { fault ≢ faults.Shut → spent.new ≡ spent.old }
     ensures memory { result ≡ Memory → fault ≡ faults.Memory }
+    ensures wants { fault ≡ faults.Memory → result ≡ Memory }
     ensures device { result ≡ Device → min (failed.old + 1) (2 ^ 64 - 1) ≤ failed.new }
     ensures rises { failed.old ≤ failed.new }
     ensures faults { (result ≡ Device) ⊎ (result ≡ Memory) }

@@ -122,9 +122,10 @@ impl Record {
         }
     }
 
-    /// The same record once more.
+    /// The same record once more. An `Err` is want of memory, which only a vote needs.
     pub fn copy(&self) -> Result<Record, AllocError>
-        ensures { IfOk result (λ kept. kept ≡ self.now) }
+        ensures copy { IfOk result (λ kept. kept ≡ self.now) }
+        ensures memory { OnErr result (IsSome (record_of self.now).vote) }
     {
         Ok(Record {
             promised: self.promised,

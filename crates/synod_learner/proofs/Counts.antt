@@ -13,7 +13,7 @@ use Rattle.mc_parts.proofs.Membership.{in_right, in_left, in_two}
 use Rattle.synod_acceptor.specs.declared.vote.Vote.{Vote as Cast}
 use Rattle.synod_acceptor.specs.Votes.{slot_in, vote_of}
 use Rattle.synod_learner.specs.declared.tally.Tally.{Tally}
-use Rattle.synod_learner.specs.Counts.{AreSingle, Count, IsCountAt, IsCountPlace, IsCounted, IsUncounted, IsVotersAt, count_of, counts_of, with_count}
+use Rattle.synod_learner.specs.Counts.{AreSingle, Count, IsCountAt, IsCountPlace, IsCounted, IsUncounted, IsVotersAt, count_of, counts_of, with_count, with_voters, with_voters_of}
 
 abbrev pub count : Slot → Vote → ℕ → Count
 count slot vote voters = record { slot = slot; vote = vote; voters = voters }
@@ -269,6 +269,14 @@ tally_put tallies place old vote voters here at =
     let same : count_of old ≡ count (slot_in vote) (vote_of vote) at.voters = cc in
     map-set count_of tallies place (record { vote = old.vote; voters = voters })
     ∙ ap (λ (c : Count). set (counts_of tallies) place c) (λ i. count (ap (λ (c : Count). c.slot) same i) (ap (λ (c : Count). c.vote) same i) voters)
+
+-- the count of a tally with other voters
+pub tally_anew : (tallies : List Tally) (place : ℕ) (tally : Tally) (voters : ℕ) → place < length tallies → tally ≡ get_or tallies place tally →
+    counts_of (set tallies place (record { vote = tally.vote; voters = voters })) ≡ with_voters (counts_of tallies) place voters
+unfolding voters_here
+tally_anew tallies place tally voters below is =
+    map-set count_of tallies place (record { vote = tally.vote; voters = voters })
+    ∙ sym (ap (with_voters_of (counts_of tallies) place voters) (voters_here tallies place tally below is).1)
 
 pub uncounted : (counts : List Count) (slot : Slot) (vote : Vote) (place : Option ℕ) (voters voter : ℕ) → AreSingle counts →
     IsCountPlace counts slot vote place → IsVotersAt counts place voters → has voters voter ≡ false → IsCounted counts voter slot vote →

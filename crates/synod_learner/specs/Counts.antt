@@ -61,6 +61,14 @@ abbrev pub with_count : List Count → Option ℕ → Count → List Count
 with_count counts None count = counts ++ count ∷ []
 with_count counts (Some place) count = set counts place count
 
+-- the counts, of which the one at this place is of these voters
+abbrev pub with_voters_of : List Count → ℕ → ℕ → Option Count → List Count
+with_voters_of counts place voters None = counts
+with_voters_of counts place voters (Some count) = set counts place (record count { voters = voters })
+
+abbrev pub with_voters : List Count → ℕ → ℕ → List Count
+with_voters counts place voters = with_voters_of counts place voters (slice_get counts place)
+
 -- the chain of a message that is known, if any
 abbrev pub known_in : List Chain → ℕ → Option (List Decree)
 known_in [] id = None

@@ -1,5 +1,5 @@
 -- What a learner has heard, as packets that came to a node, and what it knows by it (Paxos Made Simple, 2.3).
-use Rattle.std.specs.Prelude.{◌↔◌, ℕ, ◌<◌, pred, Bool, true, false, List, length, Option, Some, None}
+use Rattle.std.specs.Prelude.{◌≡◌, ◌⊎◌, ◌↔◌, ℕ, ◌<◌, pred, Bool, true, false, List, ◌∷◌, length, Option, Some, None}
 use Rattle.mc_model.specs.message.Decree.{Decree}
 use Rattle.mc_types.specs.Nodes.{has}
 use Rattle.mc_model.specs.message.Chain.{Chain}
@@ -8,10 +8,13 @@ use Rattle.mc_model.specs.synod.Majority.{IsMajority}
 use Rattle.mc_model.specs.synod.OneSlot.{Vote}
 use Rattle.mc_model.specs.synod.Packet.{Packet, Slot, Voted, slot_of}
 use Rattle.mc_model.specs.node.Knowledge.{IsKnown}
+use Rattle.node_model.specs.Learner.{heard, makes_known}
 use Rattle.node_model.specs.Message.{Message, unseen}
 use Rattle.node_model.specs.Packets.{known_then}
 use Rattle.synod_acceptor.specs.declared.vote.Vote.{Vote as Cast}
-use Rattle.synod_learner.specs.Counts.{AreOfOthers, AreSingle, Count, IsCounted, Learned, is_voter, known_in}
+use Rattle.synod_acceptor.specs.Votes.{slot_in, vote_of}
+use Rattle.synod_learner.specs.declared.recount.Recount.{Recount}
+use Rattle.synod_learner.specs.Counts.{AreOfOthers, AreSingle, Count, IsCounted, IsUncounted, Learned, is_voter, known_in, with_voters}
 
 -- It counted the votes of which these packets tell, and no others; and of each message it knows the chain that a node knows to
 -- which they came: the longest of which a majority told at one ballot, and of equally long ones the first.
@@ -49,3 +52,28 @@ message_in l id = record unseen { votes = λ vote. is_voter l.counts (slot_of id
 abbrev pub known_if : Bool → Message → List Decree → Message
 known_if false m chain = m
 known_if true m chain = known_then m chain
+
+-- ---- a vote whose chain was voted for at its ballot before
+
+-- a learner that counts a vote anew
+abbrev pub recounted : Learned → Recount → Learned
+recounted l r = record l { counts = with_voters l.counts r.place r.voters }
+
+-- what the learner holds has that count, and agrees then
+pub record IsRecount (l : Learned) (r : Recount) : Type 0 where
+  pub stands : r.place < length l.counts
+  pub coherent : IsCoherent l.nodes (with_voters l.counts r.place r.voters) l.known
+
+-- so it counts the vote of which a node tells, and nothing becomes known
+pub record CountsAnew (l : Learned) (voter : ℕ) (vote : Cast) (r : Recount) : Type 0 where
+  pub fits : IsRecount l r
+  pub nothing : makes_known l.nodes (heard (message_in l vote.chain.id) voter (vote_of vote)) (vote_of vote) ≡ false
+  pub message : message_in (recounted l r) vote.chain.id ≡ heard (message_in l vote.chain.id) voter (vote_of vote)
+  pub heard_so : (received : List Packet) → HasHeard l received → HasHeard (recounted l r) (Voted voter (slot_in vote) (vote_of vote) ∷ received)
+
+-- how it counts that vote; not so, if it is the first of its chain and ballot, or makes its chain known
+abbrev pub IsRecountFor : Learned → ℕ → Cast → Option Recount → Type 0
+IsRecountFor l voter vote None =
+    IsUncounted l.counts (slot_in vote) (vote_of vote)
+    ⊎ (makes_known l.nodes (heard (message_in l vote.chain.id) voter (vote_of vote)) (vote_of vote) ≡ true)
+IsRecountFor l voter vote (Some r) = CountsAnew l voter vote r

@@ -8,8 +8,9 @@ ghost use Rattle.node_model.specs.Learner.{heard, makes_known};
 ghost use Rattle.node_model.specs.Message.{unseen};
 ghost use Rattle.synod_acceptor.specs.Votes.{slot_in, vote_of};
 ghost use Rattle.synod_learner.specs.Counts.{AreOfOthers, Grows, IsChainPlace, IsCountPlace, IsCounted, IsVotersAt, WithChain, counts_of, known_in, with_count};
-ghost use Rattle.synod_learner.specs.Hearing.{HasHeard, IsShorter, MakesKnown, known_if, message_in};
+ghost use Rattle.synod_learner.specs.Hearing.{HasHeard, IsRecount, IsRecountFor, IsShorter, MakesKnown, known_if, message_in, recounted};
 
+use crate::recount::Recount;
 use crate::tally::{Tally, tally_of};
 use mc_types::{MsgId, NodeNo, NodeSet};
 use std::alloc::{AllocError, Global};
@@ -90,6 +91,30 @@ impl Learner {
             grows,
         )?;
         Ok(grows)
+    }
+
+    /// How a vote that a node tells of is counted, if its chain was voted for at its ballot before, and does not become known by it. None if the
+    /// vote is the first of its chain and ballot, or makes its chain known. It takes no memory.
+    pub fn recount(&self, from: NodeNo, vote: &Vote) -> Option<Recount>
+        ensures { IsRecountFor self.now from vote.now result }
+    {
+        let Some(place) = tally_of(&self.tallies, vote) else {
+            return None;
+        };
+        let mut voters = voters_at(&self.tallies, Some(place));
+        voters.add(from);
+        if makes_known(&self.known, self.nodes, voters, vote) {
+            return None;
+        }
+        Some(Recount { place, voters })
+    }
+
+    /// Counts a vote as `recount` has it of this learner as it is. It takes no memory.
+    pub fn count_anew(&mut self, recount: Recount)
+        requires { IsRecount self.old recount }
+        ensures { self.new ≡ recounted self.old recount }
+    {
+        self.tallies[recount.place].voters = recount.voters;
     }
 
     /// The chain of a message that is known to be chosen, if any. It takes no memory.

@@ -3,7 +3,9 @@
 
 mod laws;
 mod learner;
+mod recount;
 mod tally;
 
 pub use laws::{other_packets_teach_nothing, what_is_heard_is_known};
 pub use learner::Learner;
+pub use recount::Recount;

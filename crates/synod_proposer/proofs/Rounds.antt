@@ -1,14 +1,14 @@
 -- A round of the code is a round as a node keeps it.
-use Rattle.std.proofs.Common.{◌≡◌, ℕ, Bool, Option, Some, None, inl, inr, sym, ap, subst, ◌∙◌}
+use Rattle.std.proofs.Common.{◌≡◌, ℕ, Bool, true, Option, Some, None, inl, inr, sym, ap, subst, ◌∙◌}
 use Rattle.std.proofs.Math.Path.{fun_ext}
 use Rattle.std.specs.Prelude.{option_map, if◌then◌else◌}
 use Rattle.std.specs.Bool.{Decides}
 use Rattle.std.proofs.lemmas.Bool.{cases_Bool}
 use Rattle.std.proofs.lemmas.Bool.Decides.{Decides-and, Decides-like, Decides-not}
 use Rattle.mc_types.specs.Nodes.{has}
-use Rattle.mc_model.specs.synod.Majority.{IsMajority, count}
+use Rattle.mc_model.specs.synod.Majority.{IsMajority}
 use Rattle.mc_model.specs.synod.OneSlot.{Vote}
-use Rattle.mc_model.specs.synod.Packet.{Propose, Slot}
+use Rattle.mc_model.specs.synod.Packet.{Propose}
 use Rattle.node_model.specs.Message.{Round}
 use Rattle.node_model.specs.Proposer.{completes, offered, promised_by}
 use Rattle.node_model.specs.Sets.{is_majority, with_node}
@@ -23,6 +23,13 @@ counted_is old new node report is = λ i. record {
   promised = fun_ext is.promised i;
   highest = is.highest i;
 }
+
+-- what a set of nodes with one more tells of the round
+pub completes_so : (nodes : ℕ) (old : Running) (after node : ℕ) → ((other : ℕ) → has after other ≡ with_node (has old.promised) node other) →
+    (IsMajority nodes (has old.promised) → ⊥) → IsMajority nodes (has after) → completes nodes (as_round old) node ≡ true
+completes_so nodes old after node members before most =
+    (Decides-and _ _ (Decides-not (is_majority nodes (has old.promised)) (most_decides nodes (has old.promised)))
+    (most_decides nodes (with_node (has old.promised) node))).1 (before, subst (λ (f : ℕ → Bool). IsMajority nodes f) (fun_ext members) most)
 
 completes_decides : (nodes : ℕ) (old new : Running) (node : ℕ) (report : Option Vote) → IsCounted old node report new →
     Decides (completes nodes (as_round old) node) (Completes nodes old new)

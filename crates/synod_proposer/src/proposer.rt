@@ -1,6 +1,6 @@
 //! The proposer.
 
-ghost use Rattle.std.specs.Prelude.{◌≡◌, ◌≤◌, ◌↔◌, ◌+◌, true, false, None, Ok, get_or, set, max, option_map, IfOk, IsErr, OnOk, OnErr, if◌then◌else◌};
+ghost use Rattle.std.specs.Prelude.{◌≡◌, ◌≤◌, ◌⊎◌, ◌↔◌, ◌+◌, true, false, None, Ok, get_or, set, max, option_map, IfOk, IsErr, IsSome, OnOk, OnErr, if◌then◌else◌};
 ghost use Rattle.mc_model.specs.synod.Ballot.{ballot_of};
 ghost use Rattle.mc_model.specs.synod.Packet.{Prepare, slot_of};
 ghost use Rattle.node_model.specs.Message.{unseen};
@@ -106,7 +106,8 @@ impl Proposer {
 
     /// Counts a promise, if it is for the slot and at the ballot of the round that runs, and gives the Propose if it completes a
     /// majority of promises of different nodes: for the chain of the highest vote that they report, else for the round's own. Any
-    /// other promise changes nothing. An `Err` is want of memory, and changes nothing.
+    /// other promise changes nothing. An `Err` is want of memory, which only a vote that is reported, or the Propose, needs; it
+    /// changes nothing.
     pub fn on_promise(
         &mut self,
         from: NodeNo,
@@ -120,6 +121,8 @@ impl Proposer {
             option_map packet_of packet ≡ proposed_in self.old.node self.old.nodes (message_of self.old).round from (report_of report.now)) }
         ensures same { IsOfSame self.old self.new }
         ensures err { OnErr result (self.new ≡ self.old) }
+        ensures memory { OnErr result (IsSome (report_of report.now)
+            ⊎ IsSome (proposed_in self.old.node self.old.nodes (message_of self.old).round from (report_of report.now))) }
     {
         let Some(round) = &mut self.round else {
             return Ok(None);
@@ -167,9 +170,10 @@ impl Proposer {
         self.me = me;
     }
 
-    /// The same proposer once more.
+    /// The same proposer once more. An `Err` is want of memory, which only a round that runs needs.
     pub fn copy(&self) -> Result<Proposer, AllocError>
-        ensures { IfOk result (λ proposer. proposer ≡ self.now) }
+        ensures copy { IfOk result (λ proposer. proposer ≡ self.now) }
+        ensures memory { OnErr result (IsSome self.now.round) }
     {
         let round = match &self.round {
             Some(round) => Some(round.copy()?),

@@ -1,10 +1,10 @@
 //! A round.
 
-ghost use Rattle.std.specs.Prelude.{◌≡◌, ◌↔◌, None, Some, IfOk, IsTrue, OnOk, OnErr};
+ghost use Rattle.std.specs.Prelude.{◌≡◌, ◌⊎◌, ◌↔◌, true, None, Some, IfOk, IsSome, IsTrue, OnOk, OnErr};
 ghost use Rattle.mc_types.specs.Nodes.{has};
 ghost use Rattle.mc_model.specs.synod.Majority.{IsMajority};
 ghost use Rattle.mc_model.specs.synod.Packet.{Slot as SlotValue, slot_of};
-ghost use Rattle.node_model.specs.Proposer.{chain_offered, higher_of, runs_at};
+ghost use Rattle.node_model.specs.Proposer.{chain_offered, completes, higher_of, runs_at};
 ghost use Rattle.synod_acceptor.specs.Votes.{report_of, slot_in, slot_reported, vote_of};
 ghost use Rattle.synod_proposer.specs.Proposing.{IsCounted, IsFresh, Offers, as_round, over};
 ghost use Rattle.synod_proposer.specs.Rounds.{IsIn, votes_of};
@@ -67,7 +67,7 @@ impl Round {
     }
 
     /// Counts a promise of a node with its report, and gives the vote that is asked for then, if the promise completes a majority.
-    /// An `Err` is want of memory, and changes nothing.
+    /// An `Err` is want of memory, which only a vote that is reported, or that is asked for, needs; it changes nothing.
     pub fn count(
         &mut self,
         nodes: u8,
@@ -79,6 +79,7 @@ impl Round {
         ensures offers { IfOk result (λ vote. Offers nodes self.old self.new (votes_of vote)) }
         ensures slot { IfOk result (λ vote. IsIn self.old.slot vote) }
         ensures err { OnErr result (self.new ≡ self.old) }
+        ensures memory { OnErr result (IsSome (report_of report.now) ⊎ (completes nodes (as_round self.old) from ≡ true)) }
     {
         let mut promised = self.promised;
         promised.add(from);
@@ -125,6 +126,7 @@ fn completes(nodes: u8, before: NodeSet, after: NodeSet) -> bool
 
 /// The vote that is reported, once more, if it is above the highest so far.
 fn reported_above(highest: &Option<Vote>, report: &Report) -> Result<Option<Vote>, AllocError>
+    ensures memory { OnErr result (IsSome (report_of report.now)) }
     ensures vote { IfOk result (λ above. over (votes_of above) (votes_of highest.now) ≡ higher_of (votes_of highest.now) (report_of report.now)) }
     ensures slot { IfOk result (λ above. IsIn (slot_reported report.now) above) }
 {

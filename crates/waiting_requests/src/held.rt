@@ -340,12 +340,13 @@ impl Held {
         }
     }
 
-    /// The chain by which its message is taken, if it is a submit_sm, of its id. An `Err` is want of memory.
+    /// The chain by which its message is taken, if it is a submit_sm, of its id. An `Err` is want of memory, which only a submit_sm needs.
     pub fn chain(&self) -> Result<Option<Chain>, AllocError>
         ensures start { IfOk result (λ chain. (setup : Setup) (k : Kept) → IsNumberedBy setup.node k.incarnation (held_of self.now).waiting.request →
             option_map start_of chain ≡ take_for setup k (held_of self.now) (held_of self.now).waiting.request) }
         ensures id { IfOk result (λ chain. IfSome chain (λ it. it.id ≡ id_of (held_of self.now))) }
         ensures asks { IfOk result (λ chain. IfSome chain (λ it. asks (held_of self.now).waiting.request ≡ false)) }
+        ensures memory { OnErr result (asks (held_of self.now).waiting.request ≡ false) }
     {
         match &self.request {
             Request::Submit(taken) => Ok(Some(taken.chain().copy()?)),

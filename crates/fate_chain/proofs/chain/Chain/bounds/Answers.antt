@@ -8,7 +8,7 @@ returns-clause-permitted c = rw (← c.self.view_is) c.self.invariant
 
 pub returns-clause-place : goal.returns-clause-place
 returns-clause-place c = rw (← c.self.view_is)
-    (let place = has_place c.self.inside.id (reverse c.self.inside.decrees.items) c.self.invariant in omega (arith, place.most, place.least))
+    (let place = has_place c.self.inside.id (reverse c.self.inside.decrees) c.self.invariant in omega (arith, place.most, place.least))
 
 pub returns-clause-taken : goal.returns-clause-taken
-returns-clause-taken c = rw (← c.self.view_is) (has_taken c.self.inside.id (reverse c.self.inside.decrees.items) c.self.invariant)
+returns-clause-taken c = rw (← c.self.view_is) (has_taken c.self.inside.id (reverse c.self.inside.decrees) c.self.invariant)

@@ -5,4 +5,4 @@ use Rattle.fate_chain.proofs.chain.Chain.standing.Goals as goal
 pub returns-clause-attempts : goal.returns-clause-attempts
 returns-clause-attempts c =
     let stands = c.in-Stands.ensures in
-    omega (arith, most_attempts c.self.inside.id (reverse c.deref.result.now) stands.0, stands.1.attempts)
+    omega (arith, most_attempts c.self.inside.id (reverse c.list.result.now) stands.0, stands.1.attempts)

@@ -29,6 +29,7 @@ returns-clause-step c =
       clock_is = refl;
       serial = same.serial;
       given = same.given;
+      counted = same.counted;
       drops = refl;
       queue = refl;
       messages = refl;

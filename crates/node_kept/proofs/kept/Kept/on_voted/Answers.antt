@@ -6,8 +6,13 @@ use Rattle.node_model.specs.Kept.{message_at}
 use Rattle.node_model.specs.Learner.{heard}
 use Rattle.node_model.specs.Message.{Message}
 use Rattle.node_kept.specs.Keeping.{kept_of}
-use Rattle.node_kept.proofs.Voting.{known_as, voted_known, voted_only}
+use Rattle.node_kept.proofs.Voting.{known_as, voted_anew, voted_known, voted_only}
 use Rattle.node_kept.proofs.kept.Kept.on_voted.Goals as goal
+
+pub returns-in-Some : goal.returns-in-Some
+returns-in-Some c =
+    let test = sym (rw c.id-id.ensures at c.concerns.ensures) ∙ c.if-not-concerns.false in
+    voted_anew c.args.self.now c.args.from c.args.vote.now c.in-Some.counted c.counting.result c.requires test c.in-Some.ensures c.counting.ensures
 
 pub returns-then-not-branch : goal.returns-then-not-branch
 returns-then-not-branch c =
