@@ -8,6 +8,6 @@ use Rattle.journal_parts.proofs.seat.Seat.TheSendSync as seat
 use Rattle.node_crossing.proofs.Clusters.{cluster_sync}
 use Rattle.thread_stop_tests.proofs.held_save.told_meanwhile.Goals as goal
 
-pub join-requires-send-F : goal.join-requires-send-F
-join-requires-send-F g c κs within =
+pub join-saved-requires-send-F : goal.join-saved-requires-send-F
+join-saved-requires-send-F g c κs within =
     search (sendable, heap.the_sync, holding.the_send, holding.the_sync, hold.the_send, hold.the_sync, latch.the_sync, list.the_send, list.the_sync, seat.the_send, cluster_sync) depth 60
