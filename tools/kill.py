@@ -15,7 +15,7 @@ What must hold, of all that clients read in all lives of a store:
     ended      a query_sm that was sent after an end was told is not answered ENROUTE, and a cancel_sm as the end wants it
     no more    no deliver_sm of a message comes after its end was told, of which DELETED by a cancel_sm is one
 
-It prints a line for each store, then the figures; the exit status is 1 if something did not hold, and each fault names its store and its kill. Store K draws
+It prints a line for each store, then the figures; the exit status is 1 if something did not hold, and each fault names its store and its life. Store K draws
 all its choices from the seed and K, so `--seed SEED --first K --kills 10` plays it again, as far as the threads of `serve` let it. It uses the standard
 library alone, and ends what it started.
 """
@@ -227,9 +227,9 @@ class Store:
     """The lives of `serve` over one set of stores."""
 
     def __init__(self, number, given, serving, ports):
-        self.number, self.seconds, self.serving, self.ports = number, given.seconds, serving, ports
+        self.number, self.given, self.serving, self.ports = number, given, serving, ports
         self.random, self.life, self.slowest = random.Random(f"{given.seed} {number}"), 0, 0.0
-        self.told = Told(lambda: f"store {self.number}, kill {self.life}")
+        self.told = Told(lambda: f"store {self.number}, life {self.life}")
         self.told.before_end = self.read_deliveries
         self.senders, self.getters = [], []
 
@@ -269,7 +269,9 @@ class Store:
             one.close()
 
     def check(self, at_all):
-        """Queries every message, at one of the nodes or at all."""
+        """Queries every message, at one of the nodes or at all, and does nothing else."""
+        for sender in self.senders:
+            sender.is_free = False
         for place, message_id in enumerate(self.told.ends):
             for sender in self.senders if at_all else [self.senders[(place + self.life) % NODES]]:
                 sender.to_ask.append(message_id)
@@ -285,17 +287,20 @@ class Store:
                 return
             serve_ready(self.senders + self.getters, 0.1)
 
-    def load(self):
-        """Loads it until it is killed, and reads what was on its way then."""
+    def load(self, may_go_on=lambda: True):
+        """Loads it until it has ended, or may not go on, and reads what was on its way then."""
         for sender in self.senders:
             sender.is_free, sender.left = True, MOST_SUBMITS // NODES
-        timer = threading.Timer(self.random.uniform(0.02, self.seconds), self.serving.process.kill)
+        while serve_ready(self.senders + self.getters, 0.05) and may_go_on():
+            for sender in self.senders:
+                if not sender.is_ended:
+                    sender.go_on()
+
+    def kill_under_load(self):
+        timer = threading.Timer(self.random.uniform(0.02, self.given.seconds), self.serving.process.kill)
         timer.start()
         try:
-            while serve_ready(self.senders + self.getters, 0.05):
-                for sender in self.senders:
-                    if not sender.is_ended:
-                        sender.go_on()
+            self.load()
         finally:
             timer.cancel()
         self.told.counts["requests open at a kill"] += sum(len(sender.open) for sender in self.senders)
@@ -320,7 +325,7 @@ class Store:
             self.start()
             self.check(False)
             self.told.counts["kills under load"] += 1
-            self.load()
+            self.kill_under_load()
         self.life = kills
         self.start()
         self.check(True)
@@ -336,12 +341,12 @@ class Store:
         return f"store {self.number}: {len(self.told.ends)} messages ({shown}), slowest start {self.slowest:.1f} s, {entries} steps in the last life"
 
 
-def play_store(program, number, given, kills):
+def play_store(given, number, count, kind):
     """What was told of the messages of a store, and how many have which state at the end."""
-    with centre(program, NODES, ACCOUNTS, given.keep, idle_seconds=120, write_seconds=10) as (serving, ports):
-        store = Store(number, given, serving, ports)
+    with centre(given.program, NODES, ACCOUNTS, given.keep, idle_seconds=120, write_seconds=10) as (serving, ports):
+        store = kind(number, given, serving, ports)
         try:
-            store.play(kills)
+            store.play(count)
         except (Ended, OSError, ValueError, KeyError) as fault:
             store.told.fault(f"{type(fault).__name__}: {fault}; {serving.said()}")
         finally:
@@ -350,29 +355,39 @@ def play_store(program, number, given, kills):
         return store.told, collections.Counter(FINAL[end["state"]] if end else "ENROUTE" for end in store.told.ends.values())
 
 
-def main():
-    reader = argparse.ArgumentParser(description=__doc__, formatter_class=argparse.RawDescriptionHelpFormatter)
-    reader.add_argument("program", metavar="PROGRAM")
-    reader.add_argument("--kills", type=int, default=200)
-    reader.add_argument("--a-store", type=int, default=10)
-    reader.add_argument("--seconds", type=float, default=1.5)
-    reader.add_argument("--seed", type=int, default=random.randrange(1_000_000))
-    reader.add_argument("--first", type=int, default=1)
-    reader.add_argument("--keep", action="store_true")
-    given = reader.parse_args()
-    program, begun = program_of(given.program), time.monotonic()
+def play_stores(given, left, what, kind):
+    """Plays over as many stores as it takes, says what came of them, and ends."""
+    begun = time.monotonic()
     print(f"seed {given.seed}", flush=True)
-    counts, states, faults, number, left = collections.Counter(), collections.Counter(), [], given.first, given.kills
+    counts, states, faults, number, all_of_them = collections.Counter(), collections.Counter(), [], given.first, left
     while left > 0:
-        kills = min(left, given.a_store)
-        told, ended = play_store(program, number, given, kills)
+        told, ended = play_store(given, number, min(left, given.a_store), kind)
         counts, states, faults = counts + told.counts, states + ended, faults + told.faults
-        number, left = number + 1, left - kills
+        number, left = number + 1, left - given.a_store
     for name, count in sorted(counts.items()):
         print(f"{name}: {count:,}")
     print(f"messages at the end: {', '.join(f'{count:,} {state}' for state, count in sorted(states.items()))}")
-    print(f"{given.kills} kills of {number - given.first} stores, seed {given.seed}, {time.monotonic() - begun:.0f} s: {len(faults)} faults")
+    print(f"{all_of_them} {what} of {number - given.first} stores, seed {given.seed}, {time.monotonic() - begun:.0f} s: {len(faults)} faults")
     sys.exit(1 if faults else 0)
+
+
+def reader_of(description, seconds):
+    """What reads the arguments that all who play over stores have."""
+    reader = argparse.ArgumentParser(description=description, formatter_class=argparse.RawDescriptionHelpFormatter)
+    reader.add_argument("program", metavar="PROGRAM", type=program_of)
+    reader.add_argument("--a-store", type=int, default=10)
+    reader.add_argument("--seconds", type=float, default=seconds)
+    reader.add_argument("--seed", type=int, default=random.randrange(1_000_000))
+    reader.add_argument("--first", type=int, default=1)
+    reader.add_argument("--keep", action="store_true")
+    return reader
+
+
+def main():
+    reader = reader_of(__doc__, 1.5)
+    reader.add_argument("--kills", type=int, default=200)
+    given = reader.parse_args()
+    play_stores(given, given.kills, "kills", Store)
 
 
 if __name__ == "__main__":

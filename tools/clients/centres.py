@@ -13,15 +13,17 @@ from ports import free_ports
 from serving import Serving
 
 PASSWORD = "secret"
+# Where its stores lie in its folder.
+STORES = "stores"
 # A node accepts connections once it has had its first rounds, for which it waits so long at most.
 START_SECONDS = 180
 
 
-def configuration(folder, ports, accounts, own):
+def configuration(stores, ports, accounts, own):
     """The text of a configuration. `accounts` has the prefix of the destinations that go to each of them, by their names; `own` has limits."""
     lines = ['system_id = "CENTRE"', "[own]", *(f"{key} = {value}" for key, value in own.items())]
     for node, port in enumerate(ports, 1):
-        lines += ["[[node]]", f"number = {node}", f'listen = "127.0.0.1:{port}"', f'store = "{folder}/{node}.db"']
+        lines += ["[[node]]", f"number = {node}", f'listen = "127.0.0.1:{port}"', f'store = "{stores}/{node}.db"']
     for name, prefix in accounts.items():
         lines += ["[[account]]", f'system_id = "{name}"', f'password = "{PASSWORD}"', "transmit = true", "receive = true"]
         lines += ["[[route]]", f'prefix = "{prefix}"', f'account = "{name}"']
@@ -32,7 +34,8 @@ def configuration(folder, ports, accounts, own):
 def centre(program, nodes, accounts, keep=False, **own):
     """A `Serving` over so many nodes on disk, which is not started yet, and their ports."""
     folder, ports = pathlib.Path(tempfile.mkdtemp(prefix="centre-")), free_ports(nodes)
-    (folder / "centre.toml").write_text(configuration(folder, ports, accounts, own))
+    (folder / STORES).mkdir()
+    (folder / "centre.toml").write_text(configuration(folder / STORES, ports, accounts, own))
     serving = Serving(program, folder / "centre.toml", folder)
     try:
         yield serving, ports
