@@ -1,15 +1,22 @@
 #!/usr/bin/env python3
 """Prints how many messages a second `centre serve` takes and delivers, over 1, 3 and 9 nodes, in memory and over files, and what processor time a message
-costs.
+costs; and beside it what others do that do a part of its work.
 
-    python3 bench/serve.py PROGRAM [MESSAGES]
+    python3 bench/serve.py PROGRAM [MESSAGES [CENTRE]]
 
 A client at each node binds over a plain socket of 127.0.0.1, keeps ten submit_sm open, and gets its own messages back, each of which it answers at once; no
 receipt is asked for. MESSAGES (1,000) are shared among the clients of a run. Printed for each run are the submit_sm answered in a second, up to the last
-answer; the messages delivered in a second, up to the last deliver_sm; the processor time of `serve` for a message, of /proc/PID/stat, which counts
-hundredths of a second; and how many times a second a plain loop writes a page to a file beside the stores and has it on the disk (fdatasync), just before
-the run and just after it; and how many parts of the journal were closed meanwhile, with the longest pause. Clients, server and loop share the processors. A run
-takes two minutes at most, and then says what was left.
+answer; the messages delivered in a second, up to the last deliver_sm; the processor time of `serve` for a message, of /proc/PID/stat, which counts hundredths
+of a second; and how many times a second a plain loop writes a page to a file beside the stores and has it on the disk (fdatasync), just before the run and just
+after it; and how many parts of the journal were closed meanwhile, with the longest pause. Clients, server and loop share the processors. A run takes two
+minutes at most, and then says what was left.
+
+Others, with one client and the same messages, in the same table: CENTRE, a Python file of a message centre in one process, run as `python3 CENTRE PORT SECONDS`,
+which does the same for its client, and keeps nothing, neither on a disk nor on other nodes. Kannel (Debian's `kannel`, if it is there) is no centre but an ESME:
+what it is given are deliver_sm, ten open at a time, it answers each once it is in its queue, and hands it on by HTTP; with a store it writes each to a file,
+without a wait for the disk. So it agrees on nothing and tries nothing again.
+
+Last come the fdatasync and fsync that `serve` itself makes for a message, by strace, in runs of their own (if strace is there).
 """
 import os
 import pathlib
@@ -20,9 +27,10 @@ import tempfile
 import time
 
 TOP = pathlib.Path(__file__).resolve().parent.parent
-sys.path.insert(0, str(TOP / "tools" / "clients"))
+sys.path[:0] = [str(TOP / "tools" / "clients"), str(TOP / "bench")]
 
 import pdus
+from beside import BEARERBOX, OtherCentre, fed_kannel, processor_seconds
 from plain_esme import Ended, Esme, wait
 from ports import free_ports
 from serving import Serving
@@ -30,7 +38,9 @@ from serving import Serving
 WINDOW = 10
 MESSAGES, MOST_MESSAGES = 1_000, 50_000
 SECONDS = 120
+NODES = (1, 3, 9)
 SYNCS, SYNC_SECONDS = 500, 2
+SYNC = re.compile(r"\b(?:fdatasync|fsync)\(")
 PART = re.compile(r"part \d+: .*, closed in (\d+) ms")
 
 
@@ -49,13 +59,13 @@ def write_config(folder, nodes, over_files):
 class Client:
     """One client: how many of its messages were sent, answered and delivered, and when the last was."""
 
-    def __init__(self, node, port, messages):
+    def __init__(self, port, messages, account, password, destination):
         self.esme, self.left, self.open = Esme(port), messages, set()
         self.wanted, self.answered, self.refused = messages, 0, 0
-        self.body = pdus.message_body(b"a message of the load test", source="144", destination=f"{node}55")
-        found = self.esme.bind(f"load{node}", "load")
+        self.body = pdus.message_body(b"a message of the load test", source="144", destination=destination)
+        found = self.esme.bind(account, password)
         if found is None or found.status != pdus.OK:
-            raise Ended(f"the bind at node {node} was answered {found}")
+            raise Ended(f"the bind of {account} was answered {found}")
 
     def go_on(self):
         """Takes what was answered, and fills the window."""
@@ -72,12 +82,6 @@ class Client:
 
     def delivered(self):
         return len(self.esme.delivered)
-
-
-def processor_seconds(process):
-    """The processor time of a process up to now."""
-    fields = pathlib.Path(f"/proc/{process.pid}/stat").read_text().rpartition(")")[2].split()
-    return (int(fields[11]) + int(fields[12])) / os.sysconf("SC_CLK_TCK")
 
 
 def syncs_a_second(folder):
@@ -115,6 +119,19 @@ def parts_of(serving):
     return f"{len(pauses)}, {max(pauses)} ms" if pauses else "0"
 
 
+def clients_of(ports, messages):
+    """A client at each node, with its share of the messages."""
+    return [Client(port, messages // len(ports), f"load{node}", "load", f"{node}55") for node, port in enumerate(ports, 1)]
+
+
+def rate(count, seconds):
+    return f"{count / seconds:,.0f}" if seconds else "not all in time"
+
+
+def put(*cells):
+    print("| " + " | ".join(map(str, cells)) + " |", flush=True)
+
+
 def run(program, folder, nodes, over_files, messages):
     """A line of the table."""
     ports = write_config(folder, nodes, over_files)
@@ -123,43 +140,96 @@ def run(program, folder, nodes, over_files, messages):
     try:
         if not serving.start():
             sys.exit(f"serve does not serve: {serving.said()}")
-        share = messages // nodes
-        clients = [Client(node, port, share) for node, port in enumerate(ports, 1)]
-        used = processor_seconds(serving.process)
+        clients = clients_of(ports, messages)
+        used = processor_seconds(serving.process.pid)
         answered, delivered = load(clients)
-        used = processor_seconds(serving.process) - used
+        used = processor_seconds(serving.process.pid) - used
         status = serving.end()
     except Ended as fault:
         sys.exit(f"{nodes} nodes: {fault}; {serving.said()}")
     finally:
         serving.kill()
-    count, refused = share * nodes, sum(client.refused for client in clients)
-    rates = [f"{count / seconds:,.0f}" if seconds else "not all in time" for seconds in (answered, delivered)]
-    place = "files" if over_files else "memory"
+    count, refused = sum(client.wanted for client in clients), sum(client.refused for client in clients)
     syncs = f"{before:,.0f} and {syncs_a_second(folder):,.0f}"
-    line = [nodes, place, f"{count:,}", *rates, f"{1e3 * used / count:.2f} ms", syncs, parts_of(serving)]
-    print("| " + " | ".join(map(str, line)) + " |", flush=True)
+    what = f"serve, {nodes} node{'s' * (nodes > 1)}"
+    rates = [rate(count, answered), rate(count, delivered), f"{1e3 * used / count:.2f} ms"]
+    put(what, "files" if over_files else "memory", f"{count:,}", *rates, syncs, parts_of(serving))
     if refused or status != 0 or not delivered:
         came = sum(client.delivered() for client in clients)
         print(f"   {refused} submit_sm were refused, {came} messages came, {serving.said()}", flush=True)
 
 
+def run_other(file, messages):
+    """The line of another centre."""
+    other = OtherCentre(file)
+    try:
+        if not other.serves():
+            return print(f"   {file} does not serve", flush=True)
+        client = Client(other.port, messages, "sme1", "pw1", "155")
+        used = processor_seconds(other.process.pid)
+        answered, delivered = load([client])
+        used = processor_seconds(other.process.pid) - used
+        put(pathlib.Path(file).name, "memory", f"{messages:,}", rate(messages, answered), rate(messages, delivered), f"{1e3 * used / messages:.2f} ms", "", "")
+    finally:
+        other.end()
+
+
+def run_kannel(folder, messages, in_file):
+    """The line of Kannel, as an ESME that takes messages."""
+    answered, delivered, used = fed_kannel(folder, messages, in_file)
+    store = "file" if in_file else "memory"
+    put("Kannel, as an ESME", store, f"{messages:,}", rate(messages, answered), rate(messages, delivered), f"{1e3 * used / messages:.2f} ms", "", "")
+
+
+def count_syncs(program, folder, nodes, messages):
+    """The line of the fdatasync and fsync that serve makes for a message."""
+    ports, told = write_config(folder, nodes, True), folder / "strace"
+    serving = Serving(program, folder / "centre.toml", folder)
+    serving.command[:0] = ["strace", "-f", "-qq", "-e", "trace=fdatasync,fsync", "-o", str(told)]
+
+    def calls():
+        return len(SYNC.findall(told.read_text()))
+    try:
+        if not serving.start():
+            sys.exit(f"serve does not serve under strace: {serving.said()}")
+        clients = clients_of(ports, messages)
+        count, before = sum(client.wanted for client in clients), calls()
+        load(clients)
+        put(nodes, f"{count:,}", f"{(calls() - before) / count:.2f}")
+    finally:
+        serving.end()
+
+
+def in_a_folder(do, *arguments):
+    """Does something with a folder of its own, which is gone then."""
+    folder = pathlib.Path(tempfile.mkdtemp(prefix="serve-"))
+    try:
+        do(folder, *arguments)
+    finally:
+        shutil.rmtree(folder)
+
+
 def main():
-    if len(sys.argv) not in (2, 3):
+    if len(sys.argv) not in (2, 3, 4):
         sys.exit(__doc__)
     program = pathlib.Path(sys.argv[1]).resolve()
     messages = int(sys.argv[2]) if sys.argv[2:] else MESSAGES
     if not WINDOW <= messages <= MOST_MESSAGES:
         sys.exit(f"MESSAGES is {WINDOW} to {MOST_MESSAGES}")
-    print("| Nodes | Stores | Messages | Submits answered a second | Delivered a second | Processor time a message | fdatasync a second | Parts closed |")
+    print("| What | Stores | Messages | Submits answered a second | Delivered a second | Processor time a message | fdatasync a second | Parts closed |")
     print("|---|---|---|---|---|---|---|---|", flush=True)
-    for nodes in (1, 3, 9):
+    for nodes in NODES:
         for over_files in (False, True):
-            folder = pathlib.Path(tempfile.mkdtemp(prefix="serve-"))
-            try:
-                run(program, folder, nodes, over_files, messages)
-            finally:
-                shutil.rmtree(folder)
+            in_a_folder(lambda folder: run(program, folder, nodes, over_files, messages))
+    if sys.argv[3:]:
+        run_other(sys.argv[3], messages)
+    for in_file in (False, True) if BEARERBOX.exists() else ():
+        in_a_folder(run_kannel, messages, in_file)
+    if not shutil.which("strace"):
+        sys.exit("strace is not here, so the fdatasync of serve are not counted")
+    print("\n| Nodes, over files | Messages | fdatasync and fsync of serve a message |\n|---|---|---|", flush=True)
+    for nodes in NODES:
+        in_a_folder(lambda folder: count_syncs(program, folder, nodes, messages))
 
 
 if __name__ == "__main__":

@@ -3,10 +3,12 @@
 
     python3 bench/start_anew.py PROGRAM [MESSAGES ..]
 
-Three nodes over stores in memory; a client at node 1 keeps ten submit_sm open, of messages that are due in a week, until the node has few message_ids left:
-half of its own up to 10,000 messages, and 10,000 else. Printed are the messages, the submit_sm answered in a second, the seconds from the last answer to the start,
-those from the start until it is through with its first tick, the processor time of `serve` meanwhile, the slowest of the query_sm that the client asks all
-the while, and the parts of the journal that were closed, with the longest pause. MESSAGES are 1,000, 10,000 and 89,999 if none are named.
+Three nodes over stores in memory; a client at node 1 keeps ten submit_sm open: of a tenth of the messages, which are delivered to itself with a delivery
+receipt each, and once these have come, of messages that are due in a week, until the node has few message_ids left: half of its own up to 10,000 messages, and
+10,000 else. Printed are the messages, the submit_sm of the second kind that are answered in a second, the seconds from the last answer to the start, those from
+the start until the node is through with its first tick, the processor time of `serve` meanwhile, the slowest of the query_sm that the client asks all the
+while, the receipts that came before the start and those that the start sends again, and the parts of the journal that were closed, with the longest pause.
+MESSAGES are 1,000, 10,000 and 89,999 if none are named.
 """
 import pathlib
 import shutil
@@ -18,13 +20,16 @@ TOP = pathlib.Path(__file__).resolve().parent.parent
 sys.path[:0] = [str(TOP / "tools" / "clients"), str(TOP / "bench")]
 
 import pdus
+from beside import processor_seconds
 from plain_esme import Esme, wait
 from ports import free_ports
-from serve import parts_of, processor_seconds
+from serve import parts_of
 from serving import Serving
 
 WINDOW, LAST_SERIAL, FEW, SECONDS = 10, 99_999, 10_000, 180
 IN_A_WEEK = "000007000000000R"
+# The esm_class of a receipt, and how many seconds without a deliver_sm are taken for the end of them.
+RECEIPT, QUIET = 4, 3
 
 
 def write_config(folder, messages):
@@ -39,9 +44,9 @@ def write_config(folder, messages):
     return ports
 
 
-def submit_all(esme, messages):
+def submit_all(esme, messages, **fields):
     """Submits so many messages; the seconds until the last was answered."""
-    body = pdus.message_body(b"a message", source="144", destination="155", schedule=IN_A_WEEK)
+    body = pdus.message_body(b"a message", source="144", destination="155", **fields)
     left, waiting, begun = messages, set(), time.monotonic()
 
     def is_done():
@@ -58,6 +63,18 @@ def submit_all(esme, messages):
     return time.monotonic() - begun
 
 
+def receipts(esme):
+    """How many delivery receipts came."""
+    return sum(1 for message in esme.delivered if message["esm_class"] == RECEIPT)
+
+
+def deliver(esme, messages):
+    """Submits so many messages with receipts, and waits until these have come."""
+    submit_all(esme, messages, registered=1)
+    if not wait([esme], lambda: len(esme.delivered) >= 2 * messages, SECONDS):
+        sys.exit(f"of {messages} messages and their receipts {len(esme.delivered)} came in {SECONDS} seconds")
+
+
 def queried(esme):
     """The seconds for which a query_sm waits."""
     begun = time.monotonic()
@@ -70,11 +87,20 @@ def started(esme, serving):
     begun, used, slowest, end = None, 0, 0, time.monotonic() + SECONDS
     while time.monotonic() < end and not any("through with its first tick" in line for line in serving.lines):
         if begun is None and any("started anew" in line for line in serving.lines):
-            begun, used = time.monotonic(), processor_seconds(serving.process)
+            begun, used = time.monotonic(), processor_seconds(serving.process.pid)
         waited = queried(esme)
         slowest = max(slowest, waited) if begun else 0
         time.sleep(0.05)
-    return begun, time.monotonic(), processor_seconds(serving.process) - used, slowest
+    return begun, time.monotonic(), processor_seconds(serving.process.pid) - used, slowest
+
+
+def sent_again(esme, before):
+    """The receipts that came behind so many, once none has come for a while."""
+    count = -1
+    while count != len(esme.delivered):
+        count = len(esme.delivered)
+        wait([esme], lambda: False, QUIET)
+    return receipts(esme) - before
 
 
 def run(program, messages):
@@ -87,13 +113,17 @@ def run(program, messages):
             sys.exit(f"serve does not serve: {serving.said()}")
         esme = Esme(ports[0])
         esme.bind("load", "load")
-        seconds = submit_all(esme, messages)
+        ended = messages // 10
+        deliver(esme, ended)
+        before, left = receipts(esme), messages - ended
+        seconds = submit_all(esme, left, schedule=IN_A_WEEK)
         last = time.monotonic()
         begun, through, used, slowest = started(esme, serving)
         if begun is None:
             sys.exit(f"{messages} messages: the node did not start anew; {serving.said()}")
-        cells = [f"{messages:,}", f"{messages / seconds:,.0f}", f"{begun - last:.1f} s", f"{through - begun:.1f} s", f"{used:.2f} s", f"{slowest:.2f} s"]
-        print("| " + " | ".join([*cells, parts_of(serving)]) + " |", flush=True)
+        cells = [f"{messages:,}", f"{left / seconds:,.0f}", f"{begun - last:.1f} s", f"{through - begun:.1f} s", f"{used:.2f} s", f"{slowest:.2f} s"]
+        told = f"{before:,}, then {sent_again(esme, before):,} again"
+        print("| " + " | ".join([*cells, told, parts_of(serving)]) + " |", flush=True)
     finally:
         serving.kill()
         shutil.rmtree(folder)
@@ -102,8 +132,8 @@ def run(program, messages):
 def main():
     if len(sys.argv) < 2:
         sys.exit(__doc__)
-    print("| Messages | Submits a second | Until it starts | Until it is through | Processor time | Slowest query | Parts closed |")
-    print("|---|---|---|---|---|---|---|", flush=True)
+    print("| Messages | Submits a second | Until it starts | Until it is through | Processor time | Slowest query | Receipts | Parts closed |")
+    print("|---|---|---|---|---|---|---|---|", flush=True)
     for messages in map(int, sys.argv[2:] or (1_000, 10_000, 89_999)):
         run(pathlib.Path(sys.argv[1]).resolve(), messages)
 

@@ -95,27 +95,28 @@ impl<S: StableStore, L: Begins, R: Wait + Eprint> Shift<'_, S, L, R> {
             if ends > 1 || !site.has_place() {
                 break;
             }
-            let next = self
-                .shared
-                .cluster
-                .grantable_after(self.rt, self.node(), site.fed())?;
-            site.feed_from(next);
-            match next {
-                Some(id) => self.offer(site, id)?,
-                None => ends += 1,
+            if !self.feed_one(site)? {
+                ends += 1;
             }
         }
         Ok(())
     }
 
-    /// Has a worker deliver a message that may be granted, if a session of its account has a place, and no one does so already.
-    fn offer(&self, site: &mut Site, id: MsgId) -> Result<(), Trouble> {
+    /// Has a worker deliver the next message that may be granted, if a session of its account has a place, and no one does so already. `false` if none is left:
+    /// the first one comes next then.
+    fn feed_one(&self, site: &mut Site) -> Result<bool, Trouble> {
+        let cluster = &self.shared.cluster;
+        let Some(id) = cluster.grantable_after(self.rt, self.node(), site.fed())? else {
+            site.feed_from(None);
+            return Ok(false);
+        };
+        site.feed_from(Some(id));
         if site.carries(id) {
-            return Ok(());
+            return Ok(true);
         }
-        if let Some(attempt) = self.shared.cluster.attempt(self.rt, self.node(), id)? {
+        if let Some(attempt) = cluster.attempt(self.rt, self.node(), id)? {
             site.offer(self.rt, attempt)?;
         }
-        Ok(())
+        Ok(true)
     }
 }

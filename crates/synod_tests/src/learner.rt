@@ -46,6 +46,37 @@ fn votes_at_two_ballots_are_not_added_up(rt: HostRuntime) {
     assert_same(&rt, &(before, after), &(None, Some(true)));
 }
 
+// Whether a vote of a node is counted anew. The vote is let go.
+fn counts_anew(rt: &impl Abort, learner: &mut Learner, from: u8, vote: Vote) -> bool {
+    let recount = learner.recount(node(rt, from), &vote);
+    drop(vote);
+    match recount {
+        Some(recount) => {
+            learner.count_anew(recount);
+            true
+        }
+        None => false,
+    }
+}
+
+#[test]
+fn a_vote_that_makes_nothing_known_is_counted_anew(rt: HostRuntime) {
+    let alloc = rt.alloc();
+    let mut learner = Learner::make(alloc, 5);
+    let first = counts_anew(&rt, &mut learner, 1, vote(&rt, alloc, 262161));
+    let begun = grows_by(&rt, &mut learner, 1, vote(&rt, alloc, 262161));
+    let second = counts_anew(&rt, &mut learner, 2, vote(&rt, alloc, 262161));
+    let third = counts_anew(&rt, &mut learner, 3, vote(&rt, alloc, 262161));
+    let grown = grows_by(&rt, &mut learner, 3, vote(&rt, alloc, 262161));
+    let fourth = counts_anew(&rt, &mut learner, 4, vote(&rt, alloc, 262161));
+    drop(learner);
+    assert_same(
+        &rt,
+        &((first, begun, second), (third, grown, fourth)),
+        &((false, false, true), (false, true, true)),
+    );
+}
+
 const OF_FOUR: &[(u8, u64, bool)] = &[
     (1, 262161, false),
     (2, 262161, false),
