@@ -14,7 +14,7 @@ use std::sync::Wait;
 /// How many messages are looked at behind a delivery: it frees one place, and a tick looks at all of them.
 pub(crate) const FEW_LOOKS: usize = 1_000;
 
-/// As many as there are message_ids of a cluster.
+/// More than a node has messages.
 pub(crate) const ALL_LOOKS: usize = usize::MAX;
 
 /// What the threads of a node share in one of its lives.
