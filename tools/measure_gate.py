@@ -24,6 +24,7 @@ import shutil
 import subprocess
 import sys
 import tempfile
+import textwrap
 import threading
 import time
 
@@ -32,6 +33,8 @@ from repository import BESIDE, IN_GATE, TOP, edits, libraries, lines_of, with_be
 TICKS = os.sysconf("SC_CLK_TCK")
 INTERVAL = 0.25
 BEGIN, END = "<!-- measured: begin -->", "<!-- measured: end -->"
+# How long the lines of the page are at most.
+WIDTH = 160
 
 # Budgets, in minutes of processor time: for the first lines of code, for each thousand more, and for the whole whatever it has.
 FIRST_LINES, MOST_OF_FIRST, MOST_A_THOUSAND, MOST_OF_ALL = 28_849, 150, 8, 220
@@ -226,8 +229,8 @@ def measured(clone, sampler, rows, whole):
         *HEAD,
         *rows,
         "",
-        f"The dearest edits, in seconds, but for the first of each crate: {', '.join(dearest)}.",
-        *(["", "Beyond their budgets: " + "; ".join(beyond) + "."] if beyond else []),
+        *textwrap.wrap(f"The dearest edits, in seconds, but for the first of each crate: {', '.join(dearest)}.", WIDTH, break_on_hyphens=False),
+        *(["", "Beyond their budgets:", "", *(f"- {one}" for one in beyond)] if beyond else []),
     ]
 
 
