@@ -92,6 +92,7 @@ impl<S: StableStore> Node<S> {
     /// those that a tick does not leave as they are. Broken exactly if a save failed before; else Grant exactly if an attempt is asked for
     /// that is not granted, with the first reason that fits, and NotGranted exactly if what came of an attempt comes that is not open. Each
     /// comes before any memory is taken; a tick is never refused, and one that finds nothing due takes no memory.
+    #[inline(always)]
     pub fn prepare_step(&self, input: Input) -> Result<Pending, StepFault>
         ensures ok { IfOk result (IsAwaited self.now input) }
         ensures broken { IsErrOf result Broken ↔ (self.now.broken ≡ true) }
@@ -113,6 +114,7 @@ impl<S: StableStore> Node<S> {
     /// out what is to be given out. It takes no memory but what its store takes. Broken exactly if a save failed before; it changes nothing,
     /// and nor does Memory, which is from the store. At Device, which comes at the step of a packet alone and only if the device failed, the change
     /// is saved or not, and the node is Broken.
+    #[inline(always)]
     pub fn commit(&mut self, pending: Pending) -> Result<Outputs, StepFault>
         requires { pending.was ≡ self.old.kept }
         ensures ok { IfOk result (HasTaken self.old pending.input self.new) }
@@ -204,6 +206,7 @@ impl<S: StableStore> Node<S> {
     /// keeps the records of the store and nothing else. The `Life` is the node's own, and an `Err` hands it back. Incarnations and Memory
     /// leave the node and its store as they were; after Device and Damaged it is Broken, and the store has the same records. Once it opened,
     /// `stopped` tells of the save that failed before, if one did.
+    #[inline(never)]
     pub fn reopen(&mut self, life: Life) -> Result<Life, (StoreFault, Life)>
         requires { IsLifeOf self.old life }
         ensures ok { IfOk result (OpensOver (S.stored self.old.store) self.old.kept.setup (S.stored self.new.store) self.new) }
@@ -258,6 +261,7 @@ impl<S: StableStore> Node<S> {
     }
 
     /// Broken exactly if a save failed before. It takes no memory.
+    #[inline(always)]
     fn judge(&self) -> Result<(), StepFault>
         ensures broken { IsErrOf result Broken ↔ (self.now.broken ≡ true) }
         ensures faults { IfErr result (λ fault. fault ≡ Broken) }
@@ -300,6 +304,7 @@ impl<S: StableStore> Node<S> {
 }
 
 /// Saves a change, if there is one. An `Err` is Device or Memory; then nothing is saved, or it is saved at Device.
+#[inline(always)]
 fn save<S: StableStore>(store: &mut S, change: &Option<Change>) -> Result<(), StepFault>
     ensures ok { OnOk result (SavesAny change.now (S.stored store.old) (S.stored store.new)) }
     ensures started { OnOk result (KeepsStarted (S.stored store.old) (S.stored store.new)) }

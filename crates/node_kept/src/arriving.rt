@@ -19,6 +19,7 @@ use waiting_requests::{Held, Request};
 impl Kept {
     /// The step in which a request comes: it waits under the next ticket. A submit_sm starts the round by which its message is taken, and
     /// another request asks its question.
+    #[inline(never)]
     pub(crate) fn on_arrival(&self, request: Request) -> Result<Step, AllocError>
         requires own { AreOwn self.now }
         requires room { is_busy (length self.now.queue) (suc self.now.given) ≡ false }

@@ -21,6 +21,7 @@ use node_parts::{GrantRefusal, Outputs, StepFault};
 impl Kept {
     /// The step that grants the attempt in which the known chain of a message ends. Grant, with the first reason that fits, comes before
     /// any memory is taken.
+    #[inline(never)]
     pub(crate) fn on_grant(&self, id: MsgId) -> Result<Step, StepFault>
         requires { AreOwn self.now }
         ensures ok { IfOk result (IsStep self.now (on_grant (kept_of self.now) (known_slot (kept_of self.now) id))) }
@@ -79,6 +80,7 @@ impl Kept {
 
     /// The step that closes the attempt in a slot with what came of it, and decides that. NotGranted, if the attempt is not open, comes
     /// before any memory is taken.
+    #[inline(never)]
     pub(crate) fn on_answered(&self, slot: Slot, outcome: Outcome) -> Result<Step, StepFault>
         requires { AreOwn self.now }
         ensures ok { IfOk result (IsStep self.now (on_response self.now.setup (kept_of self.now) slot (outcome_kept outcome))) }

@@ -1,6 +1,6 @@
 //! What a node keeps.
 
-ghost use Rattle.std.specs.Prelude.{◌≡◌, ℕ, suc, ◌≤◌, ◌&&◌, length, [], None, IfErr, IfOk, IfSome, IsOk, OnOk, not, option_map, false};
+ghost use Rattle.std.specs.Prelude.{◌≡◌, ℕ, suc, ◌≤◌, ◌&&◌, length, [], None, IfErr, IfOk, IfSome, IsOk, OnOk, not, option_map, false, true};
 ghost use Rattle.std.specs.Option.{option_copied};
 ghost use Rattle.mc_model.specs.node.Setup.{Setup as SetupValue};
 ghost use Rattle.mc_model.specs.synod.Acceptor.{Records};
@@ -55,6 +55,7 @@ pub struct Kept {
 
 impl Kept {
     /// What a node keeps that opens in an incarnation over these records; of several of a slot the first counts.
+    #[inline(never)]
     pub fn open(
         alloc: Global,
         setup: Setup,
@@ -97,6 +98,7 @@ impl Kept {
     }
 
     /// Takes in a record of its store.
+    #[inline(never)]
     fn file(&mut self, stored: Record) -> Result<(), AllocError>
         ensures { OnOk result (IsFiled self.old stored self.new) }
     {
@@ -112,6 +114,7 @@ impl Kept {
     /// The step that an input leads to, of which `idle` has the accounts with which a tick at this clock does nothing, if that is known, and
     /// the packet that came, if one did. It changes nothing, and copies what is kept of the input's message alone, or of those that a tick
     /// does not leave as they are. A refusal comes before any memory is taken, and a tick that finds nothing due takes none.
+    #[inline(always)]
     pub fn step(
         &self,
         input: Input,
@@ -149,6 +152,7 @@ impl Kept {
     }
 
     /// The step that a packet leads to. An `Err` is want of memory.
+    #[inline(always)]
     fn on_packet(&self, packet: &Packet) -> Result<Step, AllocError>
         requires { AreOwn self.now }
         ensures { IfOk result (IsStep self.now (on_packet self.now.setup (kept_of self.now) (packet_of packet.now))) }
@@ -177,6 +181,7 @@ impl Kept {
     }
 
     /// Keeps what is to be kept after a step; there is room for it. It takes no memory.
+    #[inline(always)]
     pub fn install(&mut self, next: Next)
         requires room { HasRoom self.old.messages next }
         requires place { HasPlace self.old.queue next.queue }
@@ -206,6 +211,7 @@ impl Kept {
     }
 
     /// Whether the node is one of the cluster.
+    #[inline(always)]
     fn is_member(&self, node: NodeNo) -> bool
         ensures { result ≡ is_member self.now.setup node }
     {
@@ -213,6 +219,7 @@ impl Kept {
     }
 
     /// A step that does nothing.
+    #[inline(always)]
     pub(crate) fn same(&self) -> Step
         ensures step { IsStep self.now (leaves (kept_of self.now)) result }
         ensures ticket { result.outputs.ticket ≡ None }
@@ -230,6 +237,7 @@ impl Kept {
     }
 
     /// What is kept is to stay as it is.
+    #[inline(always)]
     pub(crate) fn unchanged(&self) -> Next
         ensures clock { result.clock ≡ self.now.clock }
         ensures serial { result.serial ≡ self.now.serial }
@@ -253,6 +261,7 @@ impl Kept {
     }
 
     /// What it does with a Prepare.
+    #[inline(never)]
     fn on_prepare(&self, slot: Slot, ballot: Ballot) -> Result<Step, AllocError>
         ensures { IfOk result (IsStep self.now (on_prepare self.now.setup (kept_of self.now) slot ballot)) }
     {
@@ -263,6 +272,7 @@ impl Kept {
     }
 
     /// What it does with a Propose.
+    #[inline(never)]
     fn on_propose(&self, vote: &Vote) -> Result<Step, AllocError>
         ensures { IfOk result (IsStep self.now (on_propose self.now.setup (kept_of self.now) (slot_in vote.now) (vote_of vote.now))) }
     {
@@ -273,6 +283,7 @@ impl Kept {
     }
 
     /// What it does with a question.
+    #[inline(never)]
     fn on_ask(&self, id: MsgId, name: Name) -> Result<Step, AllocError>
         ensures { IfOk result (IsStep self.now (on_ask self.now.setup (kept_of self.now) id name)) }
     {
@@ -290,21 +301,42 @@ impl Kept {
     }
 
     /// What it does with a promise.
+    #[inline(always)]
     fn on_promise(&self, from: NodeNo, ballot: Ballot, report: &Report) -> Result<Step, AllocError>
         requires { AreOwn self.now }
         ensures { IfOk result (IsStep self.now (on_promise self.now.setup (kept_of self.now) from (slot_reported report.now) ballot (report_of report.now))) }
     {
-        let slot = report.slot();
-        let id = slot.id;
-        if !self.runs_at(id, slot, ballot) {
+        if !self.runs_for(ballot, report) {
             return Ok(self.same());
         }
+        self.promised(from, ballot, report)
+    }
+
+    /// What it does with a promise in a round that runs.
+    #[inline(never)]
+    fn promised(&self, from: NodeNo, ballot: Ballot, report: &Report) -> Result<Step, AllocError>
+        requires own { AreOwn self.now }
+        requires runs { runs_at (message_at (kept_of self.now) (slot_reported report.now).id).round (slot_reported report.now) ballot ≡ true }
+        ensures { IfOk result (IsStep self.now (on_promise self.now.setup (kept_of self.now) from (slot_reported report.now) ballot (report_of report.now))) }
+    {
+        let slot = report.slot();
+        let id = slot.id;
         let mut message = self.taken(id)?;
         let packet = message.promised_by(from, ballot, report)?;
         self.leave(id, message, packet, None)
     }
 
+    /// Whether the round runs that a promise at this ballot, with this report, is for. It takes no memory.
+    #[inline(always)]
+    fn runs_for(&self, ballot: Ballot, report: &Report) -> bool
+        ensures { result ≡ runs_at (message_at (kept_of self.now) (slot_reported report.now).id).round (slot_reported report.now) ballot }
+    {
+        let slot = report.slot();
+        self.runs_at(slot.id, slot, ballot)
+    }
+
     /// Whether a round of this slot, of the message of this id, runs at this ballot. It takes no memory.
+    #[inline(always)]
     fn runs_at(&self, id: MsgId, slot: Slot, ballot: Ballot) -> bool
         ensures { result ≡ runs_at (message_at (kept_of self.now) id).round slot ballot }
     {
@@ -315,17 +347,28 @@ impl Kept {
     }
 
     /// What it does with a vote that is told.
+    #[inline(always)]
     fn on_voted(&self, from: NodeNo, vote: &Vote) -> Result<Step, AllocError>
         requires { AreOwn self.now }
         ensures { IfOk result (IsStep self.now (voted_in self.now.setup (kept_of self.now) from (slot_in vote.now) (vote_of vote.now))) }
     {
-        let id = vote.chain.id();
-        if !self.concerns(id) {
+        if !self.concerns(vote.chain.id()) {
             return Ok(self.same());
         }
-        if let Some(counted) = self.counted(from, vote) {
-            return Ok(self.counting(counted));
+        match self.counted(from, vote) {
+            Some(counted) => Ok(self.counting(counted)),
+            None => self.heard(from, vote),
         }
+    }
+
+    /// What it does with a vote that concerns it.
+    #[inline(never)]
+    fn heard(&self, from: NodeNo, vote: &Vote) -> Result<Step, AllocError>
+        requires own { AreOwn self.now }
+        requires concerns { id_concerns self.now.setup (kept_of self.now) vote.now.chain.id ≡ true }
+        ensures { IfOk result (IsStep self.now (voted_in self.now.setup (kept_of self.now) from (slot_in vote.now) (vote_of vote.now))) }
+    {
+        let id = vote.chain.id();
         let mut message = self.taken(id)?;
         let had_fate = message.has_fate(id);
         if !message.heard(from, vote)? {
@@ -336,6 +379,7 @@ impl Kept {
 
     /// How a vote that a node tells of is counted, if its chain was voted for at its ballot before, and does not become known by it. It takes
     /// no memory.
+    #[inline(always)]
     fn counted(&self, from: NodeNo, vote: &Vote) -> Option<Counted>
         ensures { IfSome result (IsCountedSo self.now from vote.now) }
     {
@@ -346,6 +390,7 @@ impl Kept {
     }
 
     /// The step that counts a vote so, and does nothing else. It takes no memory.
+    #[inline(always)]
     fn counting(&self, counted: Counted) -> Step
         ensures { IsCounting self.now counted result }
     {
@@ -359,6 +404,7 @@ impl Kept {
     }
 
     /// Whether votes on the message of an id concern it: of its own messages only those that it has taken do.
+    #[inline(always)]
     fn concerns(&self, id: MsgId) -> bool
         ensures { result ≡ id_concerns self.now.setup (kept_of self.now) id }
     {
@@ -368,6 +414,7 @@ impl Kept {
     }
 
     /// The chain, once more, if it has the first final state that is known of its message, and this node is to write a receipt of that.
+    #[inline(never)]
     pub(crate) fn receipt(&self, had_fate: bool, chain: &Chain) -> Result<Option<Chain>, AllocError>
         ensures { IfOk result (λ receipt. listed (option_map receipt_of receipt)
             ≡ receipt_if (not had_fate) self.now.setup.node chain.now.id chain.now.decrees) }
@@ -385,6 +432,7 @@ impl Kept {
     }
 
     /// What it does with a refusal.
+    #[inline(never)]
     fn on_refused(&self, slot: Slot, ballot: Ballot, promised: Ballot) -> Result<Step, AllocError>
         requires { AreOwn self.now }
         ensures { IfOk result (IsStep self.now (on_refused self.now.setup (kept_of self.now) slot ballot promised)) }
@@ -413,6 +461,7 @@ impl Kept {
     }
 
     /// A copy of what is kept of a message.
+    #[inline(always)]
     pub(crate) fn taken(&self, id: MsgId) -> Result<Message, AllocError>
         ensures { IfOk result (IsTaken self.now id) }
     {
@@ -519,6 +568,7 @@ impl Kept {
     }
 
     /// The step that answers by a verdict and keeps this message under the id.
+    #[inline(always)]
     fn answer(&self, id: MsgId, message: Message, verdict: Verdict) -> Result<Step, AllocError>
         ensures { IfOk result (IsAnswer self.now id message verdict) }
     {
@@ -532,6 +582,7 @@ impl Kept {
     }
 
     /// The step that sends this packet and writes this receipt, as far as there are any, and keeps this message under the id.
+    #[inline(always)]
     pub(crate) fn leave(
         &self,
         id: MsgId,
@@ -551,6 +602,7 @@ impl Kept {
     }
 
     /// This message is to take the place of what is kept of the id, and nothing else changes.
+    #[inline(always)]
     pub(crate) fn next(&self, id: MsgId, message: Message) -> Result<Next, AllocError>
         ensures { IfOk result (IsNext self.now id message) }
     {
@@ -563,6 +615,7 @@ impl Kept {
 }
 
 /// A step after which it is not known if a tick does anything.
+#[inline(always)]
 fn alone(step: Step) -> Foreseen
     ensures step { result.step ≡ step }
     ensures idle { result.idle ≡ None }
@@ -571,6 +624,7 @@ fn alone(step: Step) -> Foreseen
 }
 
 /// Makes of the requests that wait what a step makes of them. It takes no memory.
+#[inline(always)]
 fn requeue(queue: &mut Queue, change: QueueChange, nodes: u8)
     requires { HasPlace queue.old change }
     ensures { held_in queue.new ≡ requeued nodes (held_in queue.old) change }
@@ -586,6 +640,7 @@ fn requeue(queue: &mut Queue, change: QueueChange, nodes: u8)
 }
 
 /// Counts a vote anew, if one is to be counted so. It takes no memory.
+#[inline(always)]
 fn count_if(kept: &mut MessageShelf, counted: Option<Counted>)
     requires { MayCount kept.old.entries counted }
     ensures entries { kept.new.entries ≡ counted_if counted kept.old.entries }
@@ -598,6 +653,7 @@ fn count_if(kept: &mut MessageShelf, counted: Option<Counted>)
 }
 
 /// Ends the round of each message, if rounds end. It takes no memory.
+#[inline(always)]
 fn rest_if(kept: &mut MessageShelf, ends: bool)
     ensures entries { kept.new.entries ≡ rested_if ends kept.old.entries }
     ensures room { kept.new.room ≡ kept.old.room }
@@ -609,6 +665,7 @@ fn rest_if(kept: &mut MessageShelf, ends: bool)
 }
 
 /// Puts messages in the places of what was kept of their ids, the last of them first; there is room for them. It takes no memory.
+#[inline(always)]
 fn put_each(kept: &mut MessageShelf, mut messages: Vec<Put>)
     requires room { length messages.items ≤ kept.old.room }
     requires listings { length messages.items ≤ kept.old.listings }

@@ -19,6 +19,7 @@ use std::alloc::AllocError;
 impl Kept {
     /// The step by which a chain becomes known, of this message, which knows it: requests are settled and answered, a round may start by
     /// which the message is deleted, and a receipt may be due.
+    #[inline(never)]
     pub(crate) fn learned(
         &self,
         mut message: Message,
@@ -43,6 +44,7 @@ impl Kept {
     }
 
     /// The chain with the decree that deletes its message, if a request asks for that, no attempt is open, and there is no final state.
+    #[inline(never)]
     pub(crate) fn deletion(
         &self,
         chain: &Chain,

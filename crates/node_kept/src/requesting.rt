@@ -24,6 +24,7 @@ use waiting_requests::{Request, Taken};
 
 impl Kept {
     /// What it does with a request of an account: it refuses it at once, or lets it wait.
+    #[inline(never)]
     pub(crate) fn on_request(&self, account: &SystemId, request: Asked) -> Result<Step, AllocError>
         requires { AreOwn self.now }
         ensures { IfOk result (IsStep self.now (stepped_up self.now.setup (kept_of self.now)

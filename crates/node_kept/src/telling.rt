@@ -1,11 +1,11 @@
 //! What a node does with what is told to a question of its own.
 
-ghost use Rattle.std.specs.Prelude.{◌≡◌, ◌∷◌, [], IfOk, IfSome, None, option_map};
+ghost use Rattle.std.specs.Prelude.{◌≡◌, ◌∷◌, [], IfOk, IfSome, None, option_map, true};
 ghost use Rattle.std.specs.Option.{option_copied};
 ghost use Rattle.node_model.specs.Kept.{message_at};
-ghost use Rattle.node_model.specs.Packets.{on_tell, told_to};
+ghost use Rattle.node_model.specs.Packets.{on_tell, tells_about, told_to};
 ghost use Rattle.node_model.specs.Proposer.{started};
-ghost use Rattle.node_model.specs.Requests.{id_of};
+ghost use Rattle.node_model.specs.Requests.{id_of, told_by};
 ghost use Rattle.node_model.specs.Starts.{delete_for};
 ghost use Rattle.synod_acceptor.specs.Votes.{told_vote};
 ghost use Rattle.waiting_requests.specs.Waiting.{held_of, known_of};
@@ -42,6 +42,18 @@ impl Kept {
         if !held.is_told_by(told) {
             return Ok(self.same());
         }
+        self.hear(held, from, told)
+    }
+
+    /// What it does with what a node tells to a request that waits for it.
+    #[inline(never)]
+    fn hear(&self, held: &Held, from: NodeNo, told: Option<&Vote>) -> Result<Step, AllocError>
+        requires sound { IsSound self.now.setup.node self.now.incarnation (held_of held.now) }
+        requires own { AreOwn self.now }
+        requires about { tells_about (told_vote (option_copied told)) (id_of (held_of held.now)) ≡ true }
+        ensures { IfOk result (IsStep self.now (told_to self.now.setup (kept_of self.now)
+            (message_at (kept_of self.now) (id_of (held_of held.now))).known (told_by (held_of held.now) from (told_vote (option_copied told.entry))))) }
+    {
         let mut held = held.copy()?;
         held.hear(from, told)?;
         self.told_to(held)
@@ -58,6 +70,7 @@ impl Kept {
     }
 
     /// The step by which this was told to a request that waits: it may settle it, answer it, or start a round.
+    #[inline(never)]
     fn told_to(&self, mut held: Held) -> Result<Step, AllocError>
         requires own { AreOwn self.now }
         requires sound { IsSound self.now.setup.node self.now.incarnation (held_of held) }
@@ -78,6 +91,7 @@ impl Kept {
 
     /// The chain for which a round starts once this was told to a request: by which its message is deleted, if that settles it; else the one
     /// that was told and is not known yet.
+    #[inline(never)]
     fn next_told(
         &self,
         held: &Held,
@@ -113,6 +127,7 @@ impl Kept {
     }
 
     /// The reply to a request, if it has an answer, and what becomes of those that wait.
+    #[inline(never)]
     fn verdict(
         &self,
         held: Held,
@@ -133,6 +148,7 @@ impl Kept {
     }
 
     /// The step that starts a round for a chain of the message of this id, if there is one and it may start, and does nothing else.
+    #[inline(never)]
     pub(crate) fn starting(&self, id: MsgId, next: Option<Chain>) -> Result<Step, AllocError>
         requires own { AreOwn self.now }
         requires id { IfSome next (λ chain. chain.id ≡ id) }

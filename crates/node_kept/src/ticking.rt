@@ -39,6 +39,7 @@ use tick_rules::Standpoint;
 impl Kept {
     /// The step of a tick, of which `idle` has the accounts with which one at this clock does nothing, if that is known. If the moment is not
     /// above the clock and the accounts are the same, it is that step at once. It takes no memory if nothing is due.
+    #[inline(never)]
     pub(crate) fn tick(
         &self,
         moment: Moment,
@@ -66,6 +67,7 @@ impl Kept {
     /// those that waited too long are answered so and wait no more, and those are asked of again of which no majority told; all rounds end,
     /// and for each message, by ascending ids, the first rule that fits starts one. `up` has the accounts of which a session may receive.
     /// It takes no memory if nothing is due.
+    #[inline(never)]
     pub(crate) fn on_tick(&self, moment: Moment, up: &[SystemId]) -> Result<Step, AllocError>
         requires { AreOwn self.now }
         ensures step { IfOk result (IsStep self.now (on_tick self.now.setup (kept_of self.now) moment (is_up up.now))) }
@@ -112,6 +114,7 @@ impl Kept {
     /// What a tick makes of all messages, by ascending ids, at this clock, once all rounds ended: of those that are kept, and of those that
     /// the requests ask of which did not wait too long. It looks at those that are live or asked of, since no rule fits another. `up` has the
     /// accounts of which a session may receive. It takes memory only for those that a rule fits.
+    #[inline(never)]
     fn turns(&self, clock: Moment, up: &[SystemId]) -> Result<TurnList, AllocError>
         requires { AreOwn self.now }
         ensures turned { IfOk result (IsTurned self.now clock (is_up up.now) (ids_of (ticked (kept_of self.now) clock))) }

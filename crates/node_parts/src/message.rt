@@ -79,6 +79,7 @@ impl Message {
 
     /// What the acceptor of the node of this number answers to a Prepare, and the change that is to be saved before; it has taken it in.
     /// An `Err` is want of memory, after which the message is worth nothing.
+    #[inline(never)]
     pub fn promise(
         &mut self,
         node: NodeNo,
@@ -94,6 +95,7 @@ impl Message {
 
     /// What the acceptor of the node of this number answers to a Propose, and the change that is to be saved before; it has taken it in.
     /// An `Err` is want of memory, after which the message is worth nothing.
+    #[inline(never)]
     pub fn vote(&mut self, node: NodeNo, vote: &Vote) -> Result<Verdict, AllocError>
         ensures { IfOk result (IsJudged self.old (slot_in vote.now)
             (propose_judged node (slot_in vote.now) (vote_of vote.now) (record_at self.old.acceptor (slot_in vote.now))) self.new) }
@@ -120,6 +122,7 @@ impl Message {
 
     /// Counts a promise of a node, with its report, in the round that runs at its slot and ballot, and gives the Propose if it completes a
     /// majority. An `Err` is want of memory, after which the message is worth nothing.
+    #[inline(never)]
     pub fn promised_by(
         &mut self,
         from: NodeNo,
@@ -133,6 +136,7 @@ impl Message {
 
     /// Counts a vote that a node tells of. `true` if its chain is known from then on; then a round that it reaches ends. An `Err` is want
     /// of memory, after which the message is worth nothing.
+    #[inline(never)]
     pub fn heard(&mut self, from: NodeNo, vote: &Vote) -> Result<bool, AllocError>
         ensures { IfOk result (IsHeard self.old from vote.now self.new) }
     {
@@ -278,6 +282,7 @@ impl Message {
 
     /// Closes the attempt in a slot with what came of it, and gives the Prepare of the round for its decree, if the attempt is the newest
     /// that is known, no round runs, and a number is left. An `Err` is want of memory, after which the message is worth nothing.
+    #[inline(never)]
     pub fn conclude(
         &mut self,
         slot: Slot,
@@ -300,6 +305,7 @@ impl Message {
     /// What a tick makes of the message of this id, if it is not kept as it was, once no round of it runs. `up` has the accounts of which a
     /// session may receive, `queue` the requests that wait, of which those count that did not wait too long. If no rule fits, it is kept
     /// as it was, and no memory is taken.
+    #[inline(never)]
     pub fn turn(
         &self,
         id: MsgId,
@@ -411,6 +417,7 @@ impl Message {
     }
 
     /// Takes in a record of its store.
+    #[inline(never)]
     pub fn file(&mut self, stored: Record) -> Result<(), AllocError>
         ensures records { OnOk result ((slot : SlotValue) →
             record_at self.new.acceptor slot ≡ with_record (record_at self.old.acceptor) (slot_recorded stored) (record_of stored) slot) }
@@ -436,6 +443,7 @@ impl Message {
     }
 
     /// The same message once more.
+    #[inline(never)]
     pub fn copy(&self) -> Result<Message, AllocError>
         ensures { IfOk result (λ message. message ≡ self.now) }
     {

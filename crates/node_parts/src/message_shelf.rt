@@ -89,6 +89,7 @@ impl MessageShelf {
     }
 
     /// Room for so many more messages, to be handed to `make_room`. It takes memory only if there is no room for them. It changes nothing.
+    #[inline(never)]
     pub fn room(&self, alloc: Global, more: usize) -> Result<MessageRoom, AllocError>
         ensures shelf { IfOk result (λ room. (more ≤ self.now.room) ⊎ (length self.now.entries + more ≤ room.shelf)) }
         ensures live { IfOk result (λ room. (more ≤ self.now.listings) ⊎ (length self.now.entries + more ≤ vec_capacity room.live)) }
@@ -100,6 +101,7 @@ impl MessageShelf {
     }
 
     /// Moves the messages and their list into this room, as far as it is larger than what they have. It takes no memory.
+    #[inline(never)]
     pub fn make_room(&mut self, room: MessageRoom)
         ensures entries { self.new.entries ≡ self.old.entries }
         ensures room { max self.old.room (room.shelf - length self.old.entries) ≤ self.new.room }
@@ -111,6 +113,7 @@ impl MessageShelf {
     }
 
     /// Puts a message in the place of what was kept of its id, and lists it. There is room. It takes no memory.
+    #[inline(never)]
     pub fn put(&mut self, id: MsgId, message: Box<Message>)
         requires room { 0 < self.old.room }
         requires listings { 0 < self.old.listings }
@@ -135,6 +138,7 @@ impl MessageShelf {
     }
 
     /// Ends the round of each message, and takes those that are decided off the list. It takes no memory.
+    #[inline(never)]
     pub fn rest(&mut self)
         ensures entries { self.new.entries ≡ map rested_entry self.old.entries }
         ensures room { self.new.room ≡ self.old.room }
@@ -145,6 +149,7 @@ impl MessageShelf {
     }
 
     /// Keeps each message for this node in this incarnation. It takes no memory.
+    #[inline(never)]
     pub fn renew(&mut self, me: Author)
         ensures { self.new.entries ≡ map (λ entry. (entry.0, renewed me entry.1)) self.old.entries }
     {

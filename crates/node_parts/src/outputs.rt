@@ -31,6 +31,7 @@ pub struct Outputs {
 
 impl Outputs {
     /// Nothing. It takes no memory.
+    #[inline(always)]
     pub fn nothing(alloc: Global) -> Outputs
         ensures ticket { result.ticket ≡ None }
         ensures refused { result.refused ≡ None }
@@ -100,6 +101,7 @@ impl Outputs {
     }
 
     /// The same outputs once more. An `Err` is want of memory.
+    #[inline(never)]
     pub fn copy(&self) -> Result<Outputs, AllocError>
         ensures { IfOk result (AreAlike self.now) }
     {

@@ -86,6 +86,7 @@ impl Queue {
     }
 
     /// Lets a request wait after all others. Its ticket is higher than theirs, and there is room for it. It takes no memory.
+    #[inline(never)]
     pub fn push(&mut self, held: Box<Held>)
         requires room { length self.old < most_waiting }
         requires above { IsAbove (held_in self.old) (box_value held).waiting.ticket }
@@ -102,6 +103,7 @@ impl Queue {
     }
 
     /// Puts a request in the place of the one of its ticket, if there is one. It takes no memory.
+    #[inline(never)]
     pub fn replace(&mut self, held: Box<Held>)
         ensures { held_in self.new ≡ with_held (held_in self.old) (held_of (box_value held)) }
     {
@@ -109,6 +111,7 @@ impl Queue {
     }
 
     /// Takes away the request of a ticket, if there is one. It takes no memory.
+    #[inline(never)]
     pub fn remove(&mut self, ticket: u64)
         ensures { held_in self.new ≡ filter (λ h. not (ticket_of h == ticket)) (held_in self.old) }
     {
@@ -117,6 +120,7 @@ impl Queue {
 
     /// The replies once this chain is known, which may settle a cancel_sm of its message first, by ascending tickets. An `Err` is
     /// want of memory, which only those need that have an answer then.
+    #[inline(never)]
     pub fn replies(&self, nodes: u8, chain: &Chain) -> Result<Vec<Reply>, AllocError>
         ensures replies { IfOk result (λ replies. map reply_given replies.items
             ≡ replies_to nodes (Some chain.now.decrees) chain.now.id (map (settled_for nodes chain.now.id chain.now.decrees) (held_in self.now))) }
@@ -126,6 +130,7 @@ impl Queue {
     }
 
     /// Settles what is settled once this chain is known, and takes away what has an answer then. It takes no memory.
+    #[inline(never)]
     pub fn settle(&mut self, nodes: u8, chain: &Chain)
         ensures { held_in self.new ≡ filter (still_waits nodes (Some chain.now.decrees) chain.now.id)
             (map (settled_for nodes chain.now.id chain.now.decrees) (held_in self.old)) }
@@ -151,6 +156,7 @@ impl Queue {
 
     /// The replies to those that waited for 30 seconds or longer, by ascending tickets. An `Err` is want of memory, which only those
     /// need.
+    #[inline(never)]
     pub fn late(&self, clock: Moment) -> Result<Vec<Reply>, AllocError>
         ensures replies { IfOk result (λ replies. map reply_given replies.items ≡ map late_reply (filter (is_late clock) (held_in self.now))) }
         ensures memory { OnErr result (IsTrue (list_any (is_late clock) (held_in self.now))) }
@@ -159,6 +165,7 @@ impl Queue {
     }
 
     /// Takes away those that waited for 30 seconds or longer. It takes no memory.
+    #[inline(never)]
     pub fn expire(&mut self, clock: Moment)
         ensures { held_in self.new ≡ timely clock (held_in self.old) }
     {
@@ -167,6 +174,7 @@ impl Queue {
 
     /// The questions of those that did not wait too long at this clock and to which no majority of so many nodes told, for the node and
     /// the incarnation in which they wait, by ascending tickets. An `Err` is want of memory, which only those need.
+    #[inline(never)]
     pub fn questions(
         &self,
         clock: Moment,

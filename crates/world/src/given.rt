@@ -45,6 +45,7 @@ impl Given {
     }
 
     /// What a node gave out: its packets are sent, for which there is room.
+    #[inline(always)]
     pub(crate) fn send(outputs: Outputs, packets: &mut Packets) -> Given
         requires { length outputs.packets.items ≤ packets.old.room }
         ensures given { IsGiven result (outputs_of outputs) }

@@ -73,6 +73,7 @@ impl Member {
 
     /// Takes the step of an input, and sends its packets. Grant and NotGranted exactly as `Node::prepare_step` says; else an `Err` is want of
     /// memory. Then nothing changes.
+    #[inline(always)]
     pub fn take(&mut self, input: Input, packets: &mut Packets) -> Result<Given, StepFault>
         requires { self.old.up ≡ true }
         ensures taken { IfOk result (λ given. HasSent self.old input packets.old.sent given self.new packets.new.sent) }
@@ -93,6 +94,7 @@ impl Member {
 
     /// Commits what was prepared, if the node is as it was then. A store in memory does not fail, so an `Err` is want of memory; then nothing
     /// changes.
+    #[inline(always)]
     fn commit(&mut self, pending: Pending) -> Result<Outputs, StepFault>
         requires { pending.was ≡ self.old.node.kept }
         ensures taken { IfOk result (HasTaken self.old.node pending.input self.new.node) }
@@ -104,6 +106,7 @@ impl Member {
     }
 
     /// Stops as a packet comes, before the save of its step or after it. An `Err` is want of memory; then nothing changes.
+    #[inline(never)]
     pub fn crash(&mut self, packet: &Packet, found: Found) -> Result<(), StepFault>
         requires { self.old.up ≡ true }
         ensures crashed { OnOk result (HasCrashed self.old packet.now (is_after found) self.new) }
@@ -142,6 +145,7 @@ impl Member {
 
     /// Starts anew, in its next incarnation, with what its store has and nothing else. Incarnations exactly if it has begun its last one;
     /// else an `Err` is want of memory. Then nothing changes.
+    #[inline(never)]
     pub fn restart(&mut self) -> Result<(), StoreFault>
         ensures restarted { OnOk result (HasRestarted self.old self.new) }
         ensures spent { IsErrOf result stores.Incarnations ↔ (9999 ≤ self.old.node.kept.incarnation) }

@@ -142,6 +142,7 @@ impl World {
 
     /// Takes a step. Of several refusals the one with the lowest number is told, but that a node is down before why an attempt is not granted;
     /// Memory is want of memory. A step that is refused changes nothing.
+    #[inline(never)]
     pub fn step(&mut self, step: Step) -> Result<Given, WorldFault>
         ensures leads { Leads self.old step result self.new }
         ensures up { OnOk result (is_up_in self.new (node_at step) ≡ leaves_up step) }
@@ -170,6 +171,7 @@ impl World {
     }
 
     /// The packet with this number comes to a node.
+    #[inline(never)]
     pub fn deliver(&mut self, number: u64, node: NodeNo) -> Result<Given, WorldFault>
         ensures leads { Leads self.old (steps.Deliver number node) result self.new }
         ensures least { OnOk result (1 ≤ number) }
@@ -182,6 +184,7 @@ impl World {
     }
 
     /// A node stops in the save of the step of the packet with this number, before it or after it; if it saves nothing, at the end of that step.
+    #[inline(never)]
     pub fn crash(&mut self, node: NodeNo, number: u64, found: Found) -> Result<Given, WorldFault>
         ensures leads { Leads self.old (steps.Crash node number found) result self.new }
         ensures up { OnOk result (is_up_in self.new (node_at (steps.Crash node number found)) ≡ leaves_up (steps.Crash node number found)) }
@@ -193,6 +196,7 @@ impl World {
     }
 
     /// A node starts anew, in its next incarnation, with its stable records and nothing else.
+    #[inline(never)]
     pub fn restart(&mut self, node: NodeNo) -> Result<Given, WorldFault>
         ensures leads { Leads self.old (steps.Restart node) result self.new }
         ensures up { OnOk result (is_up_in self.new (node_at (steps.Restart node)) ≡ leaves_up (steps.Restart node)) }
@@ -205,6 +209,7 @@ impl World {
     }
 
     /// The place of a node that is up, and the packet with this number.
+    #[inline(always)]
     fn addressed(&self, number: u64, node: NodeNo) -> Result<(usize, Packet), WorldFault>
         ensures found { IfOk result (λ found. IsAddressed self.now number node found.0 found.1) }
         ensures fault { IfErr result (IsFault (undelivered_in self.now number node)) }
@@ -218,6 +223,7 @@ impl World {
     }
 
     /// An input comes to a node, which takes its step if it is up.
+    #[inline(never)]
     fn take(&mut self, node: NodeNo, input: Input) -> Result<Given, WorldFault>
         requires { IsSentIn self.old input }
         ensures taken { IfOk result (λ given. HasTaken self.old node input given self.new) }
@@ -230,6 +236,7 @@ impl World {
     }
 
     /// The node at this place, which is up, takes the step of an input.
+    #[inline(always)]
     fn take_at(&mut self, node: NodeNo, place: usize, input: Input) -> Result<Given, WorldFault>
         requires up { IsUpAt self.old node place }
         requires sent { IsSentIn self.old input }
@@ -280,6 +287,7 @@ impl World {
     }
 
     /// The place of a node that is up.
+    #[inline(always)]
     fn place_up(&self, node: NodeNo) -> Result<usize, WorldFault>
         ensures place { IfOk result (λ place. IsUpAt self.now node place) }
         ensures fault { IfErr result (λ fault. away_in self.now node ≡ Some fault) }
