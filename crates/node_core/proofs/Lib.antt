@@ -6,3 +6,4 @@ pub mod Committing
 pub mod Storing
 pub mod Restarts
 pub mod Lists
+pub mod Quiet

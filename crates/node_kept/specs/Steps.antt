@@ -221,3 +221,8 @@ pub record IsLeft (k : Holding) (id : ℕ) (m : Filed) (outputs : Outputs) (step
   pub gives : outputs_of step.outputs ≡ outputs
   pub change : step.change ≡ None
   pub next : IsNext k id m step.next
+
+-- it gives nothing out and saves nothing
+pub record IsQuietStep (step : Step) : Type 0 where
+  pub gives : outputs_of step.outputs ≡ nothing
+  pub change : step.change ≡ None

@@ -24,7 +24,9 @@ ghost use Rattle.node_kept.specs.declared.queue_change.QueueChange.TheVariants.{
 ghost use Rattle.waiting_requests.specs.Waiting.{held_in};
 ghost use Rattle.node_kept.specs.Voting.{IsCountedSo, id_concerns, receipt_if, voted_in};
 ghost use Rattle.node_kept.specs.Preparing.{IsPrepared};
-ghost use Rattle.node_kept.specs.Steps.{HasRoom, IsAnswer, IsCounting, IsFault, IsInstalled, IsLeft, IsNext, IsStep, MayCount, counted_if, entries_after, giving, refused_by, rested_if};
+ghost use Rattle.node_parts.specs.declared.input.Input.TheVariants as inputs;
+ghost use Rattle.node_kept.specs.Steps.{HasRoom, IsAnswer, IsCounting, IsFault, IsInstalled, IsLeft, IsNext, IsQuietStep, IsStep, IsStepFor, MayCount};
+ghost use Rattle.node_kept.specs.Steps.{counted_if, entries_after, giving, refused_by, rested_if};
 ghost use Rattle.node_model.specs.Reported.{receipt_of};
 
 use crate::queue_change::QueueChange;
@@ -148,6 +150,29 @@ impl Kept {
                 let foreseen = self.tick(moment, up, idle)?;
                 Ok((foreseen, None))
             }
+        }
+    }
+
+    /// The step that a packet leads to, if it is one that gives nothing out, saves nothing and copies nothing: a promise for which no round runs, a vote that
+    /// does not concern the node or is counted where it stands, and what is told to a question that is not its own. It takes no memory.
+    #[inline(always)]
+    pub fn quiet_step(&self, packet: &Packet) -> Option<Step>
+        requires { AreOwn self.now }
+        ensures step { IfSome result (IsStepFor self.now (inputs.Packet packet.now)) }
+        ensures quiet { IfSome result IsQuietStep }
+    {
+        if !self.is_member(sender(packet)) {
+            return Some(self.same());
+        }
+        match packet {
+            Packet::Promise {
+                from,
+                ballot,
+                report,
+            } => self.quiet_promise(*from, *ballot, report),
+            Packet::Voted { from, vote } => self.quiet_vote(*from, vote),
+            Packet::Tell { from, name, told } => self.quiet_tell(*from, *name, told.as_ref()),
+            _ => None,
         }
     }
 
@@ -306,10 +331,25 @@ impl Kept {
         requires { AreOwn self.now }
         ensures { IfOk result (IsStep self.now (on_promise self.now.setup (kept_of self.now) from (slot_reported report.now) ballot (report_of report.now))) }
     {
-        if !self.runs_for(ballot, report) {
-            return Ok(self.same());
+        match self.quiet_promise(from, ballot, report) {
+            Some(step) => Ok(step),
+            None => self.promised(from, ballot, report),
         }
-        self.promised(from, ballot, report)
+    }
+
+    /// The step of a promise for which no round runs: it does nothing. It takes no memory.
+    #[inline(always)]
+    fn quiet_promise(&self, from: NodeNo, ballot: Ballot, report: &Report) -> Option<Step>
+        ensures step { IfSome result (IsStep self.now
+            (on_promise self.now.setup (kept_of self.now) from (slot_reported report.now) ballot (report_of report.now))) }
+        ensures quiet { IfSome result IsQuietStep }
+        ensures runs { result ≡ None →
+            runs_at (message_at (kept_of self.now) (slot_reported report.now).id).round (slot_reported report.now) ballot ≡ true }
+    {
+        if self.runs_for(ballot, report) {
+            return None;
+        }
+        Some(self.same())
     }
 
     /// What it does with a promise in a round that runs.
@@ -352,12 +392,26 @@ impl Kept {
         requires { AreOwn self.now }
         ensures { IfOk result (IsStep self.now (voted_in self.now.setup (kept_of self.now) from (slot_in vote.now) (vote_of vote.now))) }
     {
+        match self.quiet_vote(from, vote) {
+            Some(step) => Ok(step),
+            None => self.heard(from, vote),
+        }
+    }
+
+    /// The step of a vote that is told, if it does not concern the node, or is counted where it stands. It takes no memory.
+    #[inline(always)]
+    fn quiet_vote(&self, from: NodeNo, vote: &Vote) -> Option<Step>
+        requires { AreOwn self.now }
+        ensures step { IfSome result (IsStep self.now (voted_in self.now.setup (kept_of self.now) from (slot_in vote.now) (vote_of vote.now))) }
+        ensures quiet { IfSome result IsQuietStep }
+        ensures concerns { result ≡ None → id_concerns self.now.setup (kept_of self.now) vote.now.chain.id ≡ true }
+    {
         if !self.concerns(vote.chain.id()) {
-            return Ok(self.same());
+            return Some(self.same());
         }
         match self.counted(from, vote) {
-            Some(counted) => Ok(self.counting(counted)),
-            None => self.heard(from, vote),
+            Some(counted) => Some(self.counting(counted)),
+            None => None,
         }
     }
 

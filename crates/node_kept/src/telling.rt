@@ -12,7 +12,7 @@ ghost use Rattle.waiting_requests.specs.Waiting.{held_of, known_of};
 ghost use Rattle.tick_rules.specs.Standpoints.{start_of};
 ghost use Rattle.node_kept.specs.Keeping.{AreOwn, kept_of};
 ghost use Rattle.node_kept.specs.Queueing.{IsSound};
-ghost use Rattle.node_kept.specs.Steps.{IsStep};
+ghost use Rattle.node_kept.specs.Steps.{IsQuietStep, IsStep};
 ghost use Rattle.node_kept.specs.Telling.{IsVerdict, asked_by, next_told, started_alone};
 
 use crate::kept::Kept;
@@ -27,6 +27,7 @@ use waiting_requests::{Held, Reply};
 
 impl Kept {
     /// What it does with what a node tells.
+    #[inline(always)]
     pub(crate) fn on_tell(
         &self,
         from: NodeNo,
@@ -45,6 +46,22 @@ impl Kept {
         self.hear(held, from, told)
     }
 
+    /// The step of what a node tells to a question that is not of a request that waits here, or not about its message: it does nothing. It takes no memory.
+    #[inline(always)]
+    pub(crate) fn quiet_tell(&self, from: NodeNo, name: Name, told: Option<&Vote>) -> Option<Step>
+        ensures step { IfSome result (IsStep self.now
+            (on_tell self.now.setup (kept_of self.now) from name (told_vote (option_copied told.entry)))) }
+        ensures quiet { IfSome result IsQuietStep }
+    {
+        let Some(held) = self.asked(name) else {
+            return Some(self.same());
+        };
+        if held.is_told_by(told) {
+            return None;
+        }
+        Some(self.same())
+    }
+
     /// What it does with what a node tells to a request that waits for it.
     #[inline(never)]
     fn hear(&self, held: &Held, from: NodeNo, told: Option<&Vote>) -> Result<Step, AllocError>
@@ -60,6 +77,7 @@ impl Kept {
     }
 
     /// The request that waits for what is told under this name, if it is the node's own.
+    #[inline(always)]
     fn asked(&self, name: Name) -> Option<&Held>
         ensures { option_map held_of (option_copied result) ≡ asked_by self.now.setup (kept_of self.now) name }
     {

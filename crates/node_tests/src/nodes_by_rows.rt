@@ -6,7 +6,7 @@ use lines_of_tests::{
     ALONE, ATTEMPTS, Answer, LIVE, PACKETS, TICKS, answer_in, copied, first_other, node,
 };
 use mc_types::TypeFault;
-use node_core::{GrantRefusal, Node, Setup};
+use node_core::{GrantRefusal, Input, Node, Setup};
 use stable_store::ListStore;
 use std::alloc::Global;
 use std::process::Abort;
@@ -127,6 +127,35 @@ fn what_goes_out_is_compared_with_other_outputs(rt: HostRuntime) {
     ];
     drop(node);
     assert_same(&rt, &alike, &[true, false, true, false]);
+}
+
+// Whether a node takes the step of a packet quietly.
+fn quiet_at(rt: &impl Abort, alloc: Global, node: &mut Node<ListStore>, line: &str) -> bool {
+    let Input::Packet(packet) = input(rt, alloc, line) else {
+        panic!(rt; "a packet");
+    };
+    let given = node.take_quietly(&packet);
+    drop(packet);
+    given.is_some()
+}
+
+// No round of it runs, and it asks nothing. The first vote and the one that makes the chain known take memory.
+#[test]
+fn a_packet_that_changes_little_is_taken_quietly(rt: HostRuntime) {
+    let alloc = rt.alloc();
+    let (mut node, _life) = opened(&rt, alloc, second(&rt));
+    let first = quiet_at(&rt, alloc, &mut node, "voted 1");
+    assert_part(&rt, alloc, &mut node, "a first vote\nvoted 1 => Nothing");
+    let quiet = [
+        first,
+        quiet_at(&rt, alloc, &mut node, "voted 1"),
+        quiet_at(&rt, alloc, &mut node, "voted 3"),
+        quiet_at(&rt, alloc, &mut node, "promise 1 262161"),
+        quiet_at(&rt, alloc, &mut node, "tell 1"),
+        quiet_at(&rt, alloc, &mut node, "propose 1 262161"),
+    ];
+    drop(node);
+    assert_same(&rt, &quiet, &[false, true, false, true, true, false]);
 }
 
 #[test]

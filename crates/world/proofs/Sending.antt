@@ -6,6 +6,7 @@ use Rattle.mc_model.specs.node.Setup.{Setup}
 use Rattle.node_laws.specs.Runs.{IsOneOf}
 use Rattle.stable_store.specs.Stored.{Listed}
 use Rattle.synod_acceptor.specs.Packets.{packet_of}
+use Rattle.node_model.specs.Outputs.{nothing}
 use Rattle.node_core.specs.Outputs.{Outputs as Sent}
 use Rattle.node_core.specs.Setups.{IsSetup}
 use Rattle.node_core.specs.Steps.{outputs_of}
@@ -26,3 +27,7 @@ same_count one other o first second =
     sym (map_length packet_of one.packets.items)
     ∙ ap (λ (x : Outputs). length x.packets) (first ∙ sym second)
     ∙ map_length packet_of other.packets.items
+
+-- outputs with nothing have no packet
+pub none_sent : (o : Sent) → outputs_of o ≡ nothing → length o.packets.items ≡ 0
+none_sent o is = sym (map_length packet_of o.packets.items) ∙ ap (λ (x : Outputs). length x.packets) is

@@ -1,9 +1,10 @@
 //! One node of a world.
 
-ghost use Rattle.std.specs.Prelude.{◌≡◌, ◌↔◌, ◌⊎◌, ◌≤◌, true, IfErr, IfOk, IsErrOf, OnErr, OnOk};
+ghost use Rattle.std.specs.Prelude.{◌≡◌, ◌↔◌, ◌⊎◌, ◌≤◌, None, true, IfErr, IfOk, IfSome, IsErrOf, OnErr, OnOk};
+ghost use Rattle.node_model.specs.Outputs.{nothing};
 ghost use Rattle.node_core.specs.StepFault.TheVariants.{Memory};
 ghost use Rattle.node_core.specs.Keeping.{kept_of};
-ghost use Rattle.node_core.specs.Steps.{IsFault, refused_by};
+ghost use Rattle.node_core.specs.Steps.{IsFault, outputs_of, refused_by};
 ghost use Rattle.node_core.specs.Nodes.{HasTaken};
 ghost use Rattle.node_core.specs.Stops.{is_after};
 ghost use Rattle.stable_store.specs.declared.fault.StoreFault.TheVariants as stores;
@@ -83,6 +84,23 @@ impl Member {
     {
         self.node.bounds();
         may_come(&self.node, &input);
+        match self.take_quietly(&input) {
+            Some(outputs) => Ok(Given::send(outputs, packets)),
+            None => self.take_prepared(input, packets),
+        }
+    }
+
+    /// Prepares the step of an input, takes it, and sends its packets. The refusals are those of `take`.
+    #[inline(always)]
+    fn take_prepared(&mut self, input: Input, packets: &mut Packets) -> Result<Given, StepFault>
+        requires { self.old.up ≡ true }
+        ensures taken { IfOk result (λ given. HasSent self.old input packets.old.sent given self.new packets.new.sent) }
+        ensures faults { IfErr result (IsFault (refused_by self.old.node.kept.setup (kept_of self.old.node.kept) input)) }
+        ensures stays { OnErr result (IsUnmoved self.old self.new) }
+        ensures sent { OnErr result (packets.new.sent ≡ packets.old.sent) }
+    {
+        self.node.bounds();
+        may_come(&self.node, &input);
         let pending = self.node.prepare_step(input)?;
         let Ok(()) = packets.make_room(pending.outputs().packets.len()) else {
             drop(pending);
@@ -90,6 +108,20 @@ impl Member {
         };
         let outputs = self.commit(pending)?;
         Ok(Given::send(outputs, packets))
+    }
+
+    /// Takes the step of an input, if it is a packet whose step the node takes quietly. None leaves it as it was. It takes no memory.
+    #[inline(always)]
+    fn take_quietly(&mut self, input: &Input) -> Option<Outputs>
+        ensures taken { IfSome result (HasTaken self.old.node input.now self.new.node) }
+        ensures nothing { IfSome result (λ outputs. outputs_of outputs ≡ nothing) }
+        ensures up { self.new.up ≡ self.old.up }
+        ensures stays { result ≡ None → self.new ≡ self.old }
+    {
+        match input {
+            Input::Packet(packet) => self.node.take_quietly(packet),
+            _ => None,
+        }
     }
 
     /// Commits what was prepared, if the node is as it was then. A store in memory does not fail, so an `Err` is want of memory; then nothing

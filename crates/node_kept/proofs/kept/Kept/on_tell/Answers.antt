@@ -1,4 +1,4 @@
-use Rattle.std.proofs.Common.{◌≡◌, ◌∙◌, sym, ap, subst, Some, true}
+use Rattle.std.proofs.Common.{◌≡◌, ◌∙◌, sym, subst, true}
 use Rattle.std.proofs.lemmas.Result.{IfOk-weaker}
 use Rattle.std.specs.Option.{option_copied}
 use Rattle.node_model.specs.Outputs.{Stepped}
@@ -8,7 +8,6 @@ use Rattle.waiting_requests.specs.Waiting.{held_of}
 use Rattle.synod_acceptor.specs.Votes.{told_vote}
 use Rattle.node_kept.specs.Keeping.{kept_of}
 use Rattle.node_kept.specs.Steps.{IsStep}
-use Rattle.node_kept.specs.Telling.{asked_by}
 use Rattle.node_kept.proofs.Tells.{sound_asked, tell_to}
 use Rattle.node_kept.proofs.kept.Kept.on_tell.Goals as goal
 
