@@ -4,8 +4,8 @@
     python3 bench/codec.py [PROGRAM]
 
 Without PROGRAM it builds bench/codec/main.rt.in with the crates of HEAD in a folder of its own, which proves pdu_codec first and takes minutes. It builds
-bench/codec/smpp34.c with gcc, if Debian's libsmpp34-dev is there; else it says so. Valgrind's callgrind counts the instructions of 20,000 of them. Both run on one PDU in one run of the script,
-each five times, and the best counts. A run of no turns is taken off, so that the start of a process does not count. GNU time
+bench/codec/smpp34.c with gcc, if Debian's libsmpp34-dev is there; else it says so. Valgrind's callgrind counts the instructions of 20,000 of them. Both run on
+one PDU in one run of the script, each five times, and the best counts. A run of no turns is taken off, so that the start of a process does not count. GNU time
 (Debian's `time`) measures, since the peak memory of a process that Python starts begins at Python's own.
 """
 import pathlib

@@ -11,10 +11,10 @@ of a second; and how many times a second a plain loop writes a page to a file be
 after it; and how many parts of the journal were closed meanwhile, with the longest pause. Clients, server and loop share the processors. A run takes two
 minutes at most, and then says what was left.
 
-Others, with one client and the same messages, in the same table: CENTRE, a Python file of a message centre in one process, run as `python3 CENTRE PORT SECONDS`,
-which does the same for its client, and keeps nothing, neither on a disk nor on other nodes. Kannel (Debian's `kannel`, if it is there) is no centre but an ESME:
-what it is given are deliver_sm, ten open at a time, it answers each once it is in its queue, and hands it on by HTTP; with a store it writes each to a file,
-without a wait for the disk. So it agrees on nothing and tries nothing again.
+Others, with one client and the same messages, in the same table: CENTRE, a Python file of a message centre in one process, run as `python3 CENTRE PORT
+SECONDS`, which does the same for its client, and keeps nothing, neither on a disk nor on other nodes. Kannel (Debian's `kannel`, if it is there) is no centre
+but an ESME: what it is given are deliver_sm, ten open at a time, it answers each once it is in its queue, and hands it on by HTTP; with a store it writes each
+to a file, without a wait for the disk. So it agrees on nothing and tries nothing again.
 
 Last come the fdatasync and fsync that `serve` itself makes for a message, by strace, in runs of their own (if strace is there).
 """

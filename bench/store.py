@@ -6,8 +6,8 @@
 Without PROGRAM it builds bench/store/main.rt.in with the crates of HEAD in a folder of its own, which proves sql_store first and takes
 minutes. It builds bench/store/sqlite.c with gcc (Debian's libsqlite3-dev). All run in one run of the script, each three times, and the best
 counts; to a file they take turns, eight times, since a disk is not the same from one second to the next. A run of no saves is taken off, so that neither the
-start of a process nor the making of the records counts. Files are in WAL mode with synchronous=FULL. Seconds are of the clock for files, since a save waits for the disk, and of the processor in memory and for loads. GNU
-time (Debian's `time`) measures memory.
+start of a process nor the making of the records counts. Files are in WAL mode with synchronous=FULL. Seconds are of the clock for files, since a save waits for
+the disk, and of the processor in memory and for loads. GNU time (Debian's `time`) measures memory.
 """
 import pathlib
 import shutil

@@ -193,14 +193,14 @@ def whole_of(clone, sampler, wall, processor, last):
     beside = sum(len(edits(crate, BESIDE, clone)) for crate in crates)
     kit = subprocess.run(["rt", "version"], capture_output=True, text=True, check=True).stdout.strip()
     again = sum(totals[(crate, "check")] for crate in crates if edits(crate, IN_GATE, clone)) / 60
-    return [
-        f"Measured on {datetime.date.today().isoformat()} with {len(os.sched_getaffinity(0))} cores and `{kit}`: **{processor / 60:.0f} minutes of processor time**,",
-        f"{wall / 60:.0f} of the clock, `{last}`. The budget for {code} lines of code is {budget:.0f} minutes. The checks take {spent['check']:.0f} minutes, the tests "
-        f"{spent['tests']:.0f}, the",
-        f"{count} edits {spent['edits']:.0f} (the crates that have one are checked once more for it, which took {again:.0f} minutes the first time), and other processes "
-        f"{processor / 60 - sum(spent.values()):.0f}.",
-        f"{beside} more edits stand beside the gate.",
-    ]
+    told = (
+        f"Measured on {datetime.date.today().isoformat()} with {len(os.sched_getaffinity(0))} cores and `{kit}`: "
+        f"**{processor / 60:.0f} minutes of processor time**, {wall / 60:.0f} of the clock, `{last}`. "
+        f"The budget for {code} lines of code is {budget:.0f} minutes. The checks take {spent['check']:.0f} minutes, the tests {spent['tests']:.0f}, "
+        f"the {count} edits {spent['edits']:.0f} (the crates that have one are checked once more for it, which took {again:.0f} minutes the first time), "
+        f"and other processes {processor / 60 - sum(spent.values()):.0f}. {beside} more edits stand beside the gate."
+    )
+    return textwrap.wrap(told, WIDTH, break_on_hyphens=False)
 
 
 def narrow(clone, wanted):

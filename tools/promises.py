@@ -56,7 +56,8 @@ def main():
     wrong = [line for _, functions, _ in found for line in missing_words(functions)]
     wrong += [f"edit {name}: named {named[name]} times, there {both[name]} times" for name in sorted(both | named) if named[name] != both[name]]
     in_gate = there[IN_GATE]
-    wrong += [f"edit {name}: bold {in_bold[name]} times, in the gate {in_gate[name]} times" for name in sorted(in_gate | in_bold) if in_bold[name] != in_gate[name]]
+    names = sorted(in_gate | in_bold)
+    wrong += [f"edit {name}: bold {in_bold[name]} times, in the gate {in_gate[name]} times" for name in names if in_bold[name] != in_gate[name]]
     wrong += [f"no edit in the gate: {promise}" for promise in untried(found)]
     print(*wrong, f"{in_gate.total()} edits in the gate, {there[BESIDE].total()} beside it, {len(wrong)} wrong", sep="\n")
     sys.exit(1 if wrong else 0)

@@ -6,9 +6,12 @@
     python3 tools/readme_examples.py --prove [CRATE ..]   # the same, proved: what is not proved below them is proved first
 
 A README of a crate with code has a section 'An example'. A block there that is a part of a file comes after a sentence that names the file under `crates`. Each
-line of the block has to stand in the file that was named last, in this order; so it is code that the gate proves. A block with a `fn main` is a program: the
-sentence before it has its line for `crates.txt`, as `caller: pdu_codec`, and the one behind it says what it prints. To try it, the crates are copied to a
-folder of their own, with what is built of their libraries; there the program is the crate `caller`. This is beside the gate.
+line of the block has to stand in the file that was named last, in this order; so it is code that the gate proves.
+
+A block with a `fn main` is a program that calls the crate. Each README has one, but for those of CALLED_BY_NOBODY and of crates of tests. The sentence before
+it has its line for `crates.txt`, as `caller: pdu_codec`, and the one behind it says what it prints. A block of antt behind that is the file of its proof that
+the sentence before names, as `crates/caller/proofs/main/Invariants.antt`. To try a program, the crates are copied to a folder of their own, with what is built
+of their libraries; there the program is the crate `caller`. This is beside the gate.
 """
 import pathlib
 import re
@@ -18,20 +21,29 @@ import sys
 import tempfile
 from typing import NamedTuple
 
+from repository import libraries
+
 TOP = pathlib.Path(__file__).resolve().parent.parent
 CRATES = TOP / "crates"
 BLOCK = re.compile(r"```rust\n(.*?)```", re.DOTALL)
 FILE = re.compile(r"`([^`]+\.rt)`")
 LINE, PRINTS = re.compile(r"`caller:\s+([\w\s]+)`"), re.compile(r"\s*It prints `([^`]*)`")
+PROOF = re.compile(r"`crates/caller/(proofs/[^`]+)`[^`]*```antt\n(.*?)```", re.DOTALL)
 SOURCES = ("src", "specs", "proofs")
+# Crates of definitions and of laws, which have nothing to call; the program itself; and the server, whose caller can't be short.
+CALLED_BY_NOBODY = {
+    "mc_model", "mc_parts", "mc_laws", "node_model", "node_laws", "table_laws", "arrival_laws", "node_runs", "journal_laws", "calm_laws", "world_fates",
+    "octet_laws", "script_text", "centre", "server",
+}
 
 
 class Caller(NamedTuple):
-    """A whole program: the crate whose README has it, what it stands on, its code, and what it prints."""
+    """A whole program: the crate whose README has it, what it stands on, its code, what it prints, and the files of its proof with their paths."""
     crate: str
     beneath: str
     code: str
     printed: str
+    proofs: list
 
 
 def code(text):
@@ -61,20 +73,25 @@ def blocks():
 def callers():
     for readme, text, block in blocks():
         if "fn main(" in block.group(1):
-            beneath, printed = LINE.findall(text[:block.start()]), PRINTS.match(text[block.end():])
+            behind = text[block.end():].split("\n## ")[0]
+            beneath, printed = LINE.findall(text[:block.start()]), PRINTS.match(behind)
             if not beneath or not printed:
                 sys.exit(f"{readme.parent.name}: a program without its line for crates.txt, or what it prints")
-            yield Caller(readme.parent.name, " ".join(beneath[-1].split()), block.group(1), printed[1])
+            yield Caller(readme.parent.name, " ".join(beneath[-1].split()), block.group(1), printed[1], PROOF.findall(behind))
 
 
 def faults():
-    """What is wrong with the parts of files."""
+    """What is wrong with the parts of files, and which crates have no program."""
     for readme, text, block in blocks():
         if "fn main(" not in block.group(1):
             path = source(readme, text[:block.start()])
             lost = missing(code(block.group(1)), code(path.read_text()))
             if lost:
                 yield f"{readme.parent.name}: {path.name} has no line {lost!r}"
+    called = {caller.crate for caller in callers()}
+    for crate in libraries():
+        if not crate.endswith("_tests") and (crate in called) == (crate in CALLED_BY_NOBODY):
+            yield f"{crate}: its README has no program that calls it" if crate not in called else f"{crate}: it is called, though CALLED_BY_NOBODY names it"
 
 
 def copied(folder):
@@ -91,6 +108,9 @@ def tried(folder, caller, command):
     shutil.rmtree(crate, ignore_errors=True)
     (crate / "src").mkdir(parents=True)
     (crate / "src" / "main.rt").write_text(caller.code)
+    for path, proof in caller.proofs:
+        (crate / path).parent.mkdir(parents=True, exist_ok=True)
+        (crate / path).write_text(proof)
     (folder / "crates.txt").write_text((TOP / "crates.txt").read_text() + f"caller: {caller.beneath}\n")
     ran = subprocess.run(["rt", command], cwd=crate, stdin=subprocess.DEVNULL, capture_output=True, text=True)
     if ran.returncode or ran.stdout != caller.printed + "\n":

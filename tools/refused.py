@@ -5,8 +5,8 @@
 
 Each file of tools/refused is one of them: a line `tests:` with a crate of tests and, behind it, a part of the names of the tests that are run; a line `file:`
 with a file of the repository, and pairs of lines `old:` and `new:` for that file, as in an edit of the gate; then other files. It is made in a copy of the
-tree, in which `rt try --test` runs the tests before any proof; a test has --seconds (120). For each it prints the first test that failed, and what it said. What
-does not compile, and what no test refuses, is printed as `not ok`, and then the exit status is 1.
+tree, in which `rt try --test` runs the tests before any proof; a test has --seconds (120). For each it prints the first test that failed, and what it said.
+What does not compile, and what no test refuses, is printed as `not ok`, and then the exit status is 1.
 """
 import argparse
 import concurrent.futures

@@ -22,7 +22,9 @@ SLOTS = ("CREATE TABLE slots (id INTEGER NOT NULL, place INTEGER NOT NULL, promi
          " chain BLOB NOT NULL, PRIMARY KEY (id, place))")
 BOTH = (LIFE, SLOTS)
 # The chain of one Taken on message 1000100001, and the least ballot: round 1, incarnation 1, node 1.
-CHAIN = bytes.fromhex("01 000000003b9c50a1 0001 01 01 0001 386d4380 04736d6531 04736d6531 00 010103313434 010103313535 0000000100 386d4380 38713800 024869 0000")
+CHAIN = bytes.fromhex(
+    "01 000000003b9c50a1 0001 01 01 0001 386d4380 04736d6531 04736d6531 00 010103313434 010103313535 0000000100 386d4380 38713800 024869 0000"
+)
 ID, BALLOT = 1000100001, 262161
 ROW = (ID, 0, BALLOT, BALLOT, CHAIN)
 
@@ -52,7 +54,8 @@ def octets(path, content):
     path.write_bytes(content)
 
 
-# What each file is, how it is made, and what the store says of it when it opens, when it loads, and of the next incarnation. A fault of the opening is told by all three.
+# What each file is, how it is made, and what the store says of it when it opens, when it loads, and of the next incarnation. A fault of the opening is told by
+# all three.
 DEVICE = ("Device",) * 3
 CASES = [
     ("no row", lambda p: put(p), ("0", "0", "1")),

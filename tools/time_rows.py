@@ -42,8 +42,14 @@ def later(now, years, months, days, clock):
 
 
 def relative():
-    starts = [datetime(2024, 1, 31, tzinfo=UTC), datetime(2023, 12, 31, 23, 59, 59, tzinfo=UTC), datetime(2024, 2, 29, 1, 2, 3, tzinfo=UTC), datetime(2000, 1, 1, tzinfo=UTC)]
-    spans = [(0, 0, 0, 0, 0, 0), (0, 1, 0, 0, 0, 0), (0, 2, 0, 0, 0, 0), (1, 0, 0, 0, 0, 0), (1, 1, 1, 1, 1, 1), (2, 6, 10, 23, 34, 29), (4, 0, 0, 0, 0, 0), (0, 99, 99, 99, 99, 99), (0, 0, 0, 0, 1, 0)]
+    starts = [
+        datetime(2024, 1, 31, tzinfo=UTC), datetime(2023, 12, 31, 23, 59, 59, tzinfo=UTC), datetime(2024, 2, 29, 1, 2, 3, tzinfo=UTC),
+        datetime(2000, 1, 1, tzinfo=UTC),
+    ]
+    spans = [
+        (0, 0, 0, 0, 0, 0), (0, 1, 0, 0, 0, 0), (0, 2, 0, 0, 0, 0), (1, 0, 0, 0, 0, 0), (1, 1, 1, 1, 1, 1), (2, 6, 10, 23, 34, 29), (4, 0, 0, 0, 0, 0),
+        (0, 99, 99, 99, 99, 99), (0, 0, 0, 0, 1, 0),
+    ]
     for now in starts:
         for years, months, days, hours, minutes, secs in spans:
             clock = timedelta(hours=hours, minutes=minutes, seconds=secs)
