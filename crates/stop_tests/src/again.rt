@@ -1,0 +1,91 @@
+//! Nodes over lists that open again after a save that failed.
+
+ghost use Rattle.node_core.specs.Nodes.{IsLifeOf};
+
+use crate::end::end;
+use crate::hands::play_on;
+use crate::play::{ALONE, OF_THREE, Play};
+use crate::same::assert_same;
+use crate::scene::{Scene, list, opened, set_up};
+use node_core::{Found, Life, Node};
+use stable_store::{Found as Leaves, StableStore};
+use std::alloc::Global;
+use std::process::Abort;
+
+// More saves than a node makes.
+const MOST: u64 = 100;
+
+// The rows are played by a node that is lent, so it is not known to live this life any more.
+fn checked<S: StableStore>(rt: &impl Abort, node: &Node<S>, life: &Life)
+    ensures { IsLifeOf node.now life.now }
+{
+    if !node.is_life(life) {
+        panic!(rt; "its life");
+    }
+}
+
+fn next_life<S: StableStore>(rt: &impl Abort, node: &mut Node<S>, life: Life) -> u16
+    requires { IsLifeOf node.old life }
+{
+    match node.reopen(life) {
+        Ok(life) => life.incarnation().number(),
+        Err(_) => panic!(rt; "it opens again"),
+    }
+}
+
+fn told<S: StableStore>(node: &Node<S>) -> Option<Found> {
+    let stopped = node.stopped()?;
+    Some(stopped.found)
+}
+
+// The watched node, which stopped, opens again, in its second incarnation, and the play comes to its end. What it tells of the save in which it stopped.
+fn ended<S: StableStore>(
+    rt: &impl Abort,
+    scene: &mut Scene,
+    watched: &mut Node<S>,
+    life: Life,
+) -> Option<Found> {
+    checked(rt, watched, &life);
+    let incarnation = next_life(rt, watched, life);
+    assert_same(rt, &incarnation, &2);
+    let found = told(watched);
+    end(rt, scene, watched);
+    found
+}
+
+// What a node tells whose save of this number fails, and leaves that; none if it makes fewer saves.
+fn told_of(rt: &impl Abort, alloc: Global, play: Play, save: u64, leaves: Leaves) -> Option<Found> {
+    let mut scene = Scene::make(rt, alloc, play);
+    let setup = set_up(rt, play.watched, play.nodes);
+    let (mut watched, life) = opened(rt, alloc, list(alloc, save, leaves), setup);
+    play_on(rt, &mut scene, &mut watched);
+    let told = if scene.halt.is_some() {
+        ended(rt, &mut scene, &mut watched, life)
+    } else {
+        drop(life);
+        None
+    };
+    drop(watched);
+    told
+}
+
+// That a node opens again after each of its saves, if that fails and leaves this, and tells so.
+fn assert_told(rt: &impl Abort, alloc: Global, play: Play, leaves: Leaves, found: Found) {
+    for save in 1..MOST {
+        let told = told_of(rt, alloc, play, save, leaves);
+        if told.is_none() {
+            assert!(rt; save > 1);
+            return;
+        }
+        assert_same(rt, &(save, told), &(save, Some(found)));
+    }
+    panic!(rt; "too many saves");
+}
+
+#[test]
+fn a_node_opens_again_after_each_save_that_failed(rt: HostRuntime) {
+    for play in [ALONE, OF_THREE] {
+        assert_told(&rt, rt.alloc(), play, Leaves::Before, Found::Before);
+        assert_told(&rt, rt.alloc(), play, Leaves::After, Found::After);
+    }
+}

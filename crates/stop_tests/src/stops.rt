@@ -1,0 +1,98 @@
+//! The saves of a play in which the watched node may stop, as nodes over lists make them.
+
+use crate::lives::first_life;
+use crate::play::Play;
+use crate::scene::{Halt, Scene, list};
+use stable_store::{Found, StableStore};
+use std::alloc::Global;
+use std::process::Abort;
+use synod_acceptor::Record;
+
+// More saves than a node makes.
+const MOST: u64 = 100;
+
+// A save in which the watched node may stop: how many steps it has taken before, and what its list loads if the save was not stored, and if it
+// was. Of the records of one slot the first is the newest.
+#[derive(Drop)]
+pub struct Stop {
+    steps: u64,
+    before: Vec<Record>,
+    after: Vec<Record>,
+}
+
+// Which of the two records are found.
+pub fn found_at(stop: &Stop, records: &[Record]) -> Option<Found> {
+    if are_same(records, &stop.before) {
+        return Some(Found::Before);
+    }
+    if are_same(records, &stop.after) {
+        return Some(Found::After);
+    }
+    None
+}
+
+fn is_same(one: &Record, other: &Record) -> bool {
+    one.promised() == other.promised() && one.report().is(other.report())
+}
+
+// The first of its slot.
+fn first<'a>(records: &'a [Record], record: &Record) -> Option<&'a Record> {
+    records.iter().find(|one| one.slot() == record.slot())
+}
+
+// Whether the first record of this one's slot is the same as this one.
+fn has(records: &[Record], record: &Record) -> bool {
+    first(records, record).is_some_and(|one| is_same(one, record))
+}
+
+fn is_alone(records: &[Record], record: &Record) -> bool {
+    let count = records.iter().filter(|one| one.slot() == record.slot());
+    count.count() == 1
+}
+
+// Whether these are the newest records of a list, each once, in any order.
+fn are_same(found: &[Record], listed: &[Record]) -> bool {
+    found
+        .iter()
+        .all(|one| is_alone(found, one) && has(listed, one))
+        && listed.iter().all(|one| first(found, one).is_some())
+}
+
+// The stop that comes after so many steps.
+pub fn stop_after<'a>(rt: &impl Abort, stops: &'a [Stop], steps: u64) -> &'a Stop {
+    let stop = stops.iter().find(|stop| stop.steps == steps);
+    stop.expect(rt, "a step that saves")
+}
+
+// After how many steps the watched node stops whose save of this number fails; none if it makes fewer saves.
+fn steps_before(rt: &impl Abort, alloc: Global, play: Play, save: u64) -> Option<u64> {
+    let mut scene = Scene::make(rt, alloc, play);
+    drop(first_life(rt, &mut scene, list(alloc, save, Found::Before)));
+    match scene.halt {
+        Some(Halt::Saving(steps)) => Some(steps),
+        _ => None,
+    }
+}
+
+fn records(rt: &impl Abort, alloc: Global, play: Play, save: u64, found: Found) -> Vec<Record> {
+    let mut scene = Scene::make(rt, alloc, play);
+    let mut store = first_life(rt, &mut scene, list(alloc, save, found));
+    store.load().expect(rt, "records")
+}
+
+// All saves of the watched node.
+pub fn stops(rt: &impl Abort, alloc: Global, play: Play) -> Vec<Stop> {
+    let mut stops = Vec::new(alloc);
+    for save in 1..MOST {
+        let Some(steps) = steps_before(rt, alloc, play, save) else {
+            return stops;
+        };
+        let stop = Stop {
+            steps,
+            before: records(rt, alloc, play, save, Found::Before),
+            after: records(rt, alloc, play, save, Found::After),
+        };
+        stops.push(stop).expect(rt, "memory");
+    }
+    panic!(rt; "too many saves");
+}
