@@ -245,7 +245,10 @@ fn a_node_alone_over_sql(rt: HostRuntime) {
     let alloc = rt.alloc();
     let store = match SqlStore::in_memory(alloc) {
         Ok(store) => store,
-        Err(_) => SqlStore::in_memory(alloc).expect(&rt, "a store"),
+        Err(fault) => {
+            assert_same(&rt, &fault, &StoreFault::Memory);
+            SqlStore::in_memory(alloc).expect(&rt, "a store")
+        }
     };
     assert_walk(&rt, alloc, store, setup(&rt, 1, 1), ALONE);
 }

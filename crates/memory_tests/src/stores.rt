@@ -15,19 +15,25 @@ fn assert_memory(rt: &impl Abort, fault: StoreFault) {
     assert_same(rt, &fault, &StoreFault::Memory);
 }
 
-/// A new store. Want of memory is told as Device if it is wanted as the connection is asked whether it is open.
+/// A new store.
 fn store(rt: &impl Abort, alloc: Global) -> SqlStore<MemStore> {
     match SqlStore::in_memory(alloc) {
         Ok(store) => store,
-        Err(_) => SqlStore::in_memory(alloc).expect(rt, "a store"),
+        Err(fault) => {
+            assert_memory(rt, fault);
+            SqlStore::in_memory(alloc).expect(rt, "a store")
+        }
     }
 }
 
-/// The same store over its connection, of which the same holds.
+/// The same store over its connection, which comes back if there was no memory.
 fn adopted(rt: &impl Abort, alloc: Global, store: SqlStore<MemStore>) -> SqlStore<MemStore> {
     let conn = match SqlStore::adopt(alloc, store.into_connection()) {
         Ok(store) => return store,
-        Err((_, conn)) => conn,
+        Err((fault, conn)) => {
+            assert_memory(rt, fault);
+            conn
+        }
     };
     match SqlStore::adopt(alloc, conn) {
         Ok(store) => store,

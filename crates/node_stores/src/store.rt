@@ -22,9 +22,9 @@ impl NodeStore {
     ghost use Rattle.stable_store.specs.declared.fault.StoreFault.TheVariants.{Device, Memory};
     ghost use Rattle.node_stores.specs.Stores.{OpensInMemory, OpensOnDisk};
 
-    /// The store in the file of this path and the log beside it, which are made if they are absent; with no path, a new store in memory. Memory for want of
-    /// memory; else Device: the file can't be opened, has another table, or failed, or after want of memory nothing says that the connection is open. Of what a
-    /// file holds that is there nothing is said before it is loaded.
+    /// The store in the file of this path and the log beside it, which are made if they are absent; with no path, a new store in memory, which is refused for
+    /// want of memory alone. Of a path Memory for want of memory; else Device: the file can't be opened, has another table, or failed, or after want of memory
+    /// nothing says that the connection is open. Of what a file holds that is there nothing is said before it is loaded.
     pub fn open(
         rt: &HostRuntime,
         alloc: Global,
@@ -32,6 +32,7 @@ impl NodeStore {
     ) -> Result<NodeStore, StoreFault>
         ensures on_disk { IfSome path.entry (λ _. IfOk result OpensOnDisk) }
         ensures in_memory { IfNone path.entry (IfOk result OpensInMemory) }
+        ensures wants { IfNone path.entry (IfErr result (λ fault. fault ≡ Memory)) }
         ensures refused { IfErr result (λ fault. (fault ≡ Device) ⊎ (fault ≡ Memory)) }
     {
         match path {

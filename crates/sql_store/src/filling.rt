@@ -1,7 +1,7 @@
 //! Making the tables that a database lacks.
 
-ghost use Rattle.std.specs.Prelude.{◌≡◌, ◌⊎◌, IfOk, IfErr, IsTrue};
-ghost use Rattle.sqlite.specs.State.{HasCleanDisk, Survives};
+ghost use Rattle.std.specs.Prelude.{◌≡◌, ◌⊎◌, [], IfOk, IfErr, IsTrue, OnOk};
+ghost use Rattle.sqlite.specs.State.{HasCleanDisk, IsNotRun, IsUnchanged, Survives};
 ghost use Rattle.sqlite.specs.Held.{state};
 ghost use Rattle.record_rows.specs.Found.{IsFoundIn};
 ghost use Rattle.record_rows.specs.Ours.{IsSettled, Stands};
@@ -12,21 +12,48 @@ ghost use Rattle.sql_store.specs.Adopted.{Adds, IsFilled};
 ghost use Rattle.sql_store.specs.Orders.{layout_of};
 
 use crate::order::Order;
+use crate::settling::refusal_of;
 use record_rows::{Fault, Found, add_life, add_slots, find_tables, make_tables};
-use sqlite::{Alter, Connection};
+use sqlite::{Alter, Connection, Error};
 use stable_store::StoreFault;
 use std::alloc::Global;
 
 /// A statement that does nothing.
 const NOTHING: &str = "";
 
-/// Whether the connection is open, and in no transaction.
-fn is_ready<S: Alter>(conn: &mut Connection<S>) -> bool
-    ensures stands { HasCleanDisk (state S.Store conn.new) → IsTrue result → Stands (state S.Store conn.old) (state S.Store conn.new) }
-    ensures settled { HasCleanDisk (state S.Store conn.new) → IsTrue result → IsSettled (state S.Store conn.new) }
+/// Asks the connection whether it is open: it answers by a statement, and refuses that by an error.
+fn answer<S: Alter>(conn: &mut Connection<S>) -> Result<(), Error>
+    ensures ok { HasCleanDisk (state S.Store conn.new) → OnOk result (IsUnchanged (state S.Store conn.old) (state S.Store conn.new)) }
+    ensures err { HasCleanDisk (state S.Store conn.new) → IfErr result (λ e. (params : _)
+        → IsNotRun (state S.Store conn.old) (state S.Store conn.new) [] params e) }
     ensures survives { Survives (state S.Store conn.old) (state S.Store conn.new) (λ _. ⊥) }
 {
-    conn.prepare(NOTHING).is_ok() && conn.is_autocommit()
+    match conn.prepare(NOTHING) {
+        Ok(statement) => {
+            drop(statement);
+            Ok(())
+        }
+        Err(error) => Err(error),
+    }
+}
+
+/// Whether the connection is open, and in no transaction: else Device. Want of memory is told from that by asking once more; if there is none then either,
+/// nothing says that the connection is open, and it is Device, too.
+fn ask<S: Alter>(conn: &mut Connection<S>) -> Result<(), StoreFault>
+    ensures stands { HasCleanDisk (state S.Store conn.new) → OnOk result (Stands (state S.Store conn.old) (state S.Store conn.new)) }
+    ensures settled { HasCleanDisk (state S.Store conn.new) → OnOk result (IsSettled (state S.Store conn.new)) }
+    ensures kept { HasCleanDisk (state S.Store conn.new) → result ≡ Err stored.Memory → Stands (state S.Store conn.old) (state S.Store conn.new) }
+    ensures faults { IfErr result (λ fault. (fault ≡ stored.Device) ⊎ (fault ≡ stored.Memory)) }
+    ensures survives { Survives (state S.Store conn.old) (state S.Store conn.new) (λ _. ⊥) }
+{
+    if !conn.is_autocommit() {
+        return Err(StoreFault::Device);
+    }
+    let Err(error) = answer(conn) else {
+        return Ok(());
+    };
+    let answers = answer(conn).is_ok();
+    Err(refusal_of(error, answers))
 }
 
 /// Makes the tables that a database lacks.
@@ -70,9 +97,7 @@ pub(crate) fn fill_tables<S: Alter>(
     ensures faults { IfErr result (λ fault. (fault ≡ stored.Device) ⊎ (fault ≡ stored.Memory)) }
     ensures survives { Survives (state S.Store conn.old) (state S.Store conn.new) (Adds (state S.Store conn.old)) }
 {
-    if !is_ready(conn) {
-        return Err(StoreFault::Device);
-    }
+    ask(conn)?;
     let Ok(found) = find_tables(alloc, conn) else {
         return Err(StoreFault::Memory);
     };

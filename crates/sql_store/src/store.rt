@@ -65,7 +65,8 @@ impl<S: Alter> SqlStore<S> {
 
     /// A store over the connection, with what its database holds; a table that is absent is made, and empty. With the fault it hands
     /// the connection back: Memory for want of memory; Device for a connection that is shut or in a transaction, for a database that
-    /// has another object or a table of another form, and for a disk that failed.
+    /// has another object or a table of another form, and for a disk that failed. If there is no memory to ask whether the connection is
+    /// open, it is asked once more; if there is none again, nothing says that it is open, and it is Device.
     pub fn adopt(
         alloc: Global,
         mut conn: Connection<S>,
@@ -113,23 +114,22 @@ impl<S: Alter> SqlStore<S> {
 }
 
 impl SqlStore<MemStore> {
-    ghost use Rattle.std.specs.Prelude.{◌≡◌, ◌⊎◌, IfErr, IfOk};
+    ghost use Rattle.std.specs.Prelude.{◌≡◌, IfErr, IfOk};
     ghost use Rattle.sqlite.specs.Steps.{over_memory};
-    ghost use Rattle.stable_store.specs.declared.fault.StoreFault.TheVariants.{Device, Memory};
+    ghost use Rattle.stable_store.specs.declared.fault.StoreFault.TheVariants.{Memory};
     ghost use Rattle.sql_store.specs.Adopted.{no_records};
     ghost use Rattle.sql_store.specs.Sql.{stored_in};
 
-    /// A new store in memory: no record, and no incarnation. It ends with the program. A refusal is want of memory, told as Device
-    /// if nothing says that the connection is open after it.
+    /// A new store in memory: no record, and no incarnation. It ends with the program. A refusal is want of memory.
     pub fn in_memory(alloc: Global) -> Result<SqlStore<MemStore>, StoreFault>
         ensures records { IfOk result (λ store. (stored_in over_memory store).holds no_records) }
         ensures started { IfOk result (λ store. (stored_in over_memory store).has_started 0) }
-        ensures refused { IfErr result (λ fault. (fault ≡ Device) ⊎ (fault ≡ Memory)) }
+        ensures refused { IfErr result (λ fault. fault ≡ Memory) }
     {
         let conn = Connection::open_in_memory(alloc)?;
         match SqlStore::adopt(alloc, conn) {
             Ok(store) => Ok(store),
-            Err((fault, _)) => Err(fault),
+            Err(_) => Err(StoreFault::Memory),
         }
     }
 }
@@ -141,8 +141,8 @@ impl SqlStore<FileStore<File>> {
     ghost use Rattle.record_rows.specs.Ours.{IsOurs};
     ghost use Rattle.stable_store.specs.declared.fault.StoreFault.TheVariants.{Device, Memory};
 
-    /// The store in the file of this path and the log beside it, which are made if they are absent. Memory for want of memory; else
-    /// Device. Of what a file holds that is there nothing is said before it is loaded.
+    /// The store in the file of this path and the log beside it, which are made if they are absent. Memory for want of memory, as `adopt`
+    /// tells it; else Device. Of what a file holds that is there nothing is said before it is loaded.
     pub fn open_path(
         rt: &HostRuntime,
         alloc: Global,

@@ -58,6 +58,11 @@ fn are_same(found: &[Record], listed: &[Record]) -> bool {
         && listed.iter().all(|one| first(found, one).is_some())
 }
 
+// The last save, in which the watched node would stop after all others.
+pub fn last_save(rt: &impl Abort, stops: &[Stop]) -> Halt {
+    Halt::Saving(stops.last().expect(rt, "a save").steps)
+}
+
 // The stop that comes after so many steps.
 pub fn stop_after<'a>(rt: &impl Abort, stops: &'a [Stop], steps: u64) -> &'a Stop {
     let stop = stops.iter().find(|stop| stop.steps == steps);

@@ -4,7 +4,7 @@ use crate::files::{ENDLESS, Fuses, Left, Octets, Store, left_by, store_over};
 use crate::lives::{first_life, second_life};
 use crate::play::Play;
 use crate::scene::{Halt, Scene};
-use crate::stops::{Stop, found_at, stop_after};
+use crate::stops::{Stop, found_at, last_save, stop_after};
 use stable_store::{Found, StableStore};
 use std::alloc::Global;
 use std::process::Abort;
@@ -79,6 +79,14 @@ impl Sweep {
                 octets
             }
         }
+    }
+
+    // That the files of a node which did not stop hold what its last save left.
+    pub fn assert_whole(self, rt: &impl Abort, alloc: Global, octets: &Octets, stops: &[Stop]) {
+        let mut store = opened_again(rt, alloc, octets, self.left);
+        let found = found_in(rt, &mut store, last_save(rt, stops), stops);
+        drop(store);
+        assert!(rt; found == Some(Found::After));
     }
 
     // The watched node, which stopped, opens again over what its files hold, and the play comes to its end. Which records were found, if it stopped in a save.

@@ -46,7 +46,7 @@ impl Seen {
     }
 }
 
-// Plays over files that stop after so many calls. Whether they stopped.
+// Plays over files that stop after so many calls. Whether they stopped: if not, nothing of the play is lost.
 fn run(
     rt: &impl Abort,
     alloc: Global,
@@ -57,9 +57,12 @@ fn run(
     let mut scene = Scene::make(rt, alloc, sweep.play);
     let octets = sweep.stopped(rt, &mut scene, calls);
     let halt = scene.halt;
-    if let Some(halt) = halt {
-        let found = sweep.ended(rt, &mut scene, &octets, (halt, stops));
-        seen.note(halt, found);
+    match halt {
+        Some(halt) => {
+            let found = sweep.ended(rt, &mut scene, &octets, (halt, stops));
+            seen.note(halt, found);
+        }
+        None => sweep.assert_whole(rt, alloc, &octets, stops),
     }
     halt.is_some()
 }
