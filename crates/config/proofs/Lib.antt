@@ -3,3 +3,4 @@ pub mod Texts
 pub mod Checked
 pub mod Sound
 pub mod Built
+pub mod Blank

@@ -1,6 +1,7 @@
 //! The table `own` of a configuration.
 
-ghost use Rattle.std.specs.Prelude.{MatchResult};
+ghost use Rattle.std.specs.Prelude.{◌≡◌, MatchResult};
+ghost use Rattle.toml.specs.Errors.{IsBlank};
 ghost use Rattle.toml.specs.View.{view};
 ghost use Rattle.config.specs.Own as spec;
 
@@ -31,9 +32,10 @@ pub struct Own {
 
 /// What the table `own` of a text says (TOML, UTF-8); 0 for each key if there is none. `NotToml` only of what is no TOML; else `NoTable`, if something else stands
 /// there; else `BadValue`, with any of the keys whose value is no whole number from 0 to the greatest that it may have, or `BadFull`, if `full` has another
-/// value than "end". Other keys are ignored. `Memory` is want of memory.
+/// value than "end". Other keys are ignored. `Memory` is want of memory, of which a text of white space and comments alone takes none.
 pub fn read_own(alloc: Global, octets: &[u8]) -> Result<Own, OwnFault>
-    ensures { spec.IsOwnOutcome octets.now result }
+    ensures outcome { spec.IsOwnOutcome octets.now result }
+    ensures memory { result ≡ Err OwnFault.Memory → ¬ IsBlank octets.now }
 {
     let document = table_of(alloc, octets)?;
     match document.get("own") {
@@ -51,7 +53,8 @@ pub fn read_own(alloc: Global, octets: &[u8]) -> Result<Own, OwnFault>
 
 /// The table of a text.
 fn table_of(alloc: Global, octets: &[u8]) -> Result<Value, OwnFault>
-    ensures { MatchResult result (λ document. spec.IsDocument octets.now (view document)) (spec.OwnReadsNone octets.now) }
+    ensures memory { result ≡ Err OwnFault.Memory → ¬ IsBlank octets.now }
+    ensures table { MatchResult result (λ document. spec.IsDocument octets.now (view document)) (spec.OwnReadsNone octets.now) }
 {
     match document_of(alloc, octets) {
         Ok(document) => Ok(document),

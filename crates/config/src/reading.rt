@@ -1,6 +1,7 @@
 //! A configuration out of a text.
 
-ghost use Rattle.std.specs.Prelude.{MatchResult};
+ghost use Rattle.std.specs.Prelude.{◌≡◌, MatchResult};
+ghost use Rattle.toml.specs.Errors.{IsBlank};
 ghost use Rattle.toml.specs.View.{view};
 ghost use Rattle.config.specs.Config as spec;
 
@@ -15,9 +16,11 @@ use toml::Value;
 /// The configuration that a text says (TOML, UTF-8), or the lowest fault that fits, with a place at which it is: `NotToml` only of
 /// what is no TOML; else `Missing`, if a key without a default is not there or there is no node; else `BadValue`, if a value is of
 /// another kind or range, a node is the tenth, or a route leads to no account of the text; else `Repeated`, if two accounts have
-/// one system_id, two routes one prefix, or two nodes one number. Other keys are ignored. `Memory` is want of memory.
+/// one system_id, two routes one prefix, or two nodes one number. Other keys are ignored. `Memory` is want of memory, of
+/// which a text of white space and comments alone takes none.
 pub fn read_config(alloc: Global, octets: &[u8]) -> Result<Config, ConfigFault>
-    ensures { spec.IsOutcome octets.now result }
+    ensures outcome { spec.IsOutcome octets.now result }
+    ensures memory { result ≡ Err ConfigFault.Memory → ¬ IsBlank octets.now }
 {
     let document = document_of(alloc, octets)?;
     check(&document)?;
@@ -26,7 +29,8 @@ pub fn read_config(alloc: Global, octets: &[u8]) -> Result<Config, ConfigFault>
 
 /// The table of a text.
 pub(crate) fn document_of(alloc: Global, octets: &[u8]) -> Result<Value, ConfigFault>
-    ensures { MatchResult result (λ document. spec.IsDocument octets.now (view document)) (spec.ReadsNone octets.now) }
+    ensures memory { result ≡ Err ConfigFault.Memory → ¬ IsBlank octets.now }
+    ensures table { MatchResult result (λ document. spec.IsDocument octets.now (view document)) (spec.ReadsNone octets.now) }
 {
     match toml::table_from_slice(alloc, octets) {
         Ok(members) => Ok(Value::Table(members)),

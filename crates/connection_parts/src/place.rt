@@ -9,11 +9,13 @@ use pdu_codec::Pdu;
 use std::marker::Model;
 use std::mem;
 
-/// A delivery that a worker is to make: the slot of the attempt, and where its deliver_sm was pushed.
+/// A delivery that a worker is to make: the slot of the attempt, where its deliver_sm was pushed, and whether its text is too long for a
+/// short_message.
 #[derive(Clone, Copy, Debug, PartialEq, Eq)]
 pub struct Job {
     pub slot: Slot,
     pub pushed: PushedOn,
+    pub long: bool,
 }
 
 /// How far a worker's delivery has come.

@@ -19,6 +19,7 @@ fn job(rt: &impl Abort, sequence: u32) -> Job {
             sequence,
             knows_optional: true,
         },
+        long: false,
     }
 }
 

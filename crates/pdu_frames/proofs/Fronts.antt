@@ -97,12 +97,3 @@ added_in_two held piece first second =
     let joined : take first piece ++ take second (drop first piece) ≡ take (first + second) piece =
     rw (← take-take first (first + second) piece (omega arith), ← drop-take first second piece) (take-append-drop first (take (first + second) piece)) in
     rw (take_rest, append_assoc) (ap (λ taken. held ++ taken) joined)
-
--- Of a part some octets are missing.
-pub part_wants : (octets : List ℕ) → IsPart octets → 0 < wanted_of octets
-part_wants octets (inl short) = let early = lt-leb 4 (length octets) short in rw early (omega arith)
-part_wants octets (inr part) = wanted_behind (nat_le 4 (length octets)) refl
-  where
-    wanted_behind : (come : _) → nat_le 4 (length octets) ≡ come → 0 < wanted_of octets
-    wanted_behind true come = let allowed : is_pdu_length (command_length octets) ≡ true = part.0 in rw (come, allowed) (omega (arith, part.1))
-    wanted_behind false come = rw come (omega (arith, leb-false 4 (length octets) come))

@@ -96,7 +96,8 @@ longer_marked sets empty marks none marked at first number least most = one_more
 
 -- ---- while places are made
 
--- the same packets came to the same nodes
+-- the same packets came to the same nodes, and no place is gone
 pub record IsSame (sets marks : List ℕ) (was : Came) : Type 0 where
   pub came : (number node : ℕ) → came_in sets number node ≡ came_by was number node
   pub marked : AreMarked sets marks
+  pub kept : length was.sets ≤ length sets

@@ -1,6 +1,6 @@
 //! Which packets came to which nodes.
 
-ghost use Rattle.std.specs.Prelude.{◌≡◌, ℕ, ◌==◌, ◌≤◌, ◌<◌, ◌-◌, ◌&&◌, ◌||◌, true, false, get_or, length, set, OnOk};
+ghost use Rattle.std.specs.Prelude.{◌≡◌, ℕ, ◌==◌, ◌≤◌, ◌<◌, ◌-◌, ◌&&◌, ◌||◌, true, false, get_or, length, set, OnErr, OnOk};
 ghost use Rattle.script_runner.specs.Arrivals.{HaveCome, came_in};
 
 use mc_types::{MOST_NODES, NodeNo, NodeSet};
@@ -60,10 +60,12 @@ impl Arrivals {
         mark_of(&self.marks, node).saturating_add(1)
     }
 
-    /// The packet of a number, 1 or more, came to a node. An `Err` is want of memory.
+    /// The packet of a number, 1 or more, came to a node. An `Err` is want of memory, which only the first packet of this number or a
+    /// higher one needs.
     pub fn add(&mut self, number: u64, node: NodeNo) -> Result<(), AllocError>
         requires { 1 ≤ number }
-        ensures { OnOk result ((other at : ℕ) → came_in self.new other at ≡ ((other == number && at == node) || came_in self.old other at)) }
+        ensures came { OnOk result ((other at : ℕ) → came_in self.new other at ≡ ((other == number && at == node) || came_in self.old other at)) }
+        ensures memory { OnErr result (length self.old.sets < number) }
     {
         self.reach(number)?;
         self.sets[number as usize - 1].add(node);
@@ -73,6 +75,7 @@ impl Arrivals {
 
     /// Makes a place for each packet up to the one of this number. An `Err` is want of memory.
     fn reach(&mut self, number: u64) -> Result<(), AllocError>
+        ensures memory { OnErr result (length self.old.sets < number) }
         ensures reached { OnOk result (number ≤ length self.new.sets) }
         ensures same { (other at : ℕ) → came_in self.new other at ≡ came_in self.old other at }
     {

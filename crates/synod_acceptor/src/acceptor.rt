@@ -1,6 +1,6 @@
 //! The acceptor.
 
-ghost use Rattle.std.specs.Prelude.{◌≡◌, ◌<◌, ◌≤◌, ◌↔◌, Some, None, option_map, IfOk, IfSome, IsSome, IsTrue, OnOk, OnErr};
+ghost use Rattle.std.specs.Prelude.{[], ◌≡◌, ◌<◌, ◌≤◌, ◌↔◌, Some, None, option_map, IfOk, IfSome, IsOk, IsSome, IsTrue, OnOk, OnErr};
 ghost use Rattle.std.specs.Option.{option_copied};
 ghost use Rattle.mc_model.specs.synod.Packet.{Slot as SlotValue};
 ghost use Rattle.mc_model.specs.synod.Acceptor.{blank, with_record};
@@ -153,9 +153,10 @@ impl Acceptor {
         top_of(&self.records, id)
     }
 
-    /// The same records once more.
+    /// The same records once more. It takes no memory if there are none.
     pub fn copy(&self) -> Result<Acceptor, AllocError>
-        ensures { IfOk result (λ acceptor. acceptor ≡ self.now) }
+        ensures same { IfOk result (λ acceptor. acceptor ≡ self.now) }
+        ensures none { self.now ≡ [] → IsOk result }
     {
         let mut records = Vec::with_capacity(*self.records.allocator(), self.records.len())?;
         for record in &self.records {

@@ -14,8 +14,8 @@ invariant_of-self c =
     let found = at_index inside.sets.items place c.index_mut.result.now below ∙ ap Some (sym c.index_mut.ensures.value) in
     still_marked inside.sets.items place c.index_mut.result.now c.add.new.self c.args.node inside.marks found c.add.ensures c.self.invariant
 
-pub returns : goal.returns
-returns c = λ other at.
+pub returns-clause-came : goal.returns-clause-came
+returns-clause-came c = λ other at.
     let sets = c.self.inside.sets.items in
     let place = c.args.number - 1 in
     let reached = subst (λ (all : Came). c.args.number ≤ length all.sets) (sym c.self.view_is) c.in_ok-reach.ensures.reached in

@@ -6,7 +6,7 @@ pub returns-in_ok-tell-in-Ok-clause-comes : goal.returns-in_ok-tell-in-Ok-clause
 returns-in_ok-tell-in-Ok-clause-comes c =
     delivered_does_if c.args.self.now (record c.args.self.now { world = c.deliver.new.self }) c.tell.new.self c.args.node c.place_of-at.result c.args.number
     c.in-Ok.given c.args.text.now.items c.tell.new.text.items c.place_of-at.ensures c.in-Ok.ensures.leads c.in-Ok.ensures.up refl
-    c.in_ok-tell-in-Ok.ensures c.add.result (record c.tell.new.self { arrivals = c.add.new.self }) refl refl refl c.add.ensures
+    c.in_ok-tell-in-Ok.ensures c.add.result (record c.tell.new.self { arrivals = c.add.new.self }) refl refl refl c.add.ensures.came
 
 pub returns-in_ok-tell-in-Ok-clause-up : goal.returns-in_ok-tell-in-Ok-clause-up
 returns-in_ok-tell-in-Ok-clause-up c =
