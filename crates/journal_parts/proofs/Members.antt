@@ -20,9 +20,6 @@ use Rattle.journal_parts.specs.declared.done.Done.{Done as Taken}
 use Rattle.journal_parts.specs.Entries.{done_of}
 use Rattle.journal_parts.specs.Members.{IsBeginning, IsMember, IsReady, Posted, Rests, Takes, packet_halted}
 
-entry_by : Taken → Entry
-entry_by done = record { done = done_of done; unfinished = None }
-
 module _ {S : Type 0} (stored : S → Stored) (cluster : Cluster) (kept : ℕ → Kept) where
   -- It took a step that was prepared, and its entry stands behind its own.
   pub member_more : (old new : Posted S) (own : List Entry) (input : Given) (done : Taken) (entry : Entry) → IsMember stored cluster kept old own →

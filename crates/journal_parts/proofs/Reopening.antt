@@ -118,18 +118,3 @@ module _ {S : Type 0} (stored : S → Stored) (cluster : Cluster) (kept : ℕ �
       at_last one (inl here) =
           ap (λ (e : Entry). node_at e.done.step) here ∙ ap node_at step ∙ ap (λ (s : Setup). s.node) (sym opened.setup)
       at_last one (inr none) = absurd none
-
-  -- It is astray, and its own entries are the same.
-  pub member_strays : (old new : Posted S) (own : List Entry) → IsMember stored cluster kept old own → Strays stored old new →
-      IsMember stored cluster kept new own
-  member_strays old new own member strays = record {
-    within = subst (λ (s : Setup). IsInRange cluster s.node) (sym strays.setup) member.within;
-    setup = subst (λ (s : Setup). s ≡ setup_of cluster s.node) (sym strays.setup) member.setup;
-    entries = λ one among. member.entries one among ∙ ap (λ (s : Setup). s.node) (sym strays.setup);
-    halts = strays.unfinished ∙ ap packet_halted (sym strays.halted);
-    ends = member.ends;
-    runs = λ none.
-        subst (λ (s : Setup). IsOwnRun s (kept s.node) (done_in own) member.ends) (sym strays.setup)
-        (member.runs (omega (arith, none, strays.doubt)));
-    is_end = λ still. absurd (let one = strays.astray in cc);
-  }

@@ -25,17 +25,15 @@ use crate::open::begin;
 use crate::pending::Pending;
 use fate_chain::Chain;
 use mc_types::{Moment, MsgId};
-use node_kept::{Foreseen, Kept, Setup, Step, Stopped, told};
+use node_kept::{Kept, Setup, Step, Stopped, told};
 use node_parts::{Input, Outputs, StepFault};
-use pdu_codec::SystemId;
 use stable_store::{StableStore, StoreFault};
 use std::marker::Model;
 use std::snapshot::Snapshot;
 use synod_acceptor::{Change, Packet};
 
 /// One node over the synod, and the store that outlives its stops. A step is prepared first, which changes nothing, and then committed,
-/// which takes no memory but what its store takes. Once a save failed it takes no more steps. It notes the accounts of a tick that found
-/// nothing to do, so that the next one at the same moment need not look at its messages.
+/// which takes no memory but what its store takes. Once a save failed it takes no more steps.
 #[derive(Drop)]
 pub struct Node<S: StableStore> {
     store: S,
@@ -44,8 +42,6 @@ pub struct Node<S: StableStore> {
     // The packet whose save failed since it opened.
     unfinished: Option<Packet>,
     stopped: Option<Stopped>,
-    // The accounts with which a tick at its clock does nothing, if they are noted.
-    idle: Option<Vec<SystemId>>,
 }
 
 impl<S: StableStore> Model for Node<S> {
@@ -53,8 +49,6 @@ impl<S: StableStore> Model for Node<S> {
 
     ghost Value = { Standing S };
 
-    ghost use Rattle.node_kept.specs.Idling.{IsQuiet};
-    ghost use Rattle.node_kept.specs.Keeping.{kept_of};
     ghost use Rattle.node_core.specs.Nodes.{IsStored};
 
     ghost view = { λ n. record {
@@ -65,8 +59,7 @@ impl<S: StableStore> Model for Node<S> {
       stopped = n.stopped;
     } };
 
-    ghost invariant = { λ n.
-        IsStored n.broken (S.stored n.store) n.unfinished n.kept × IsQuiet n.kept.setup (kept_of n.kept) n.idle };
+    ghost invariant = { λ n. IsStored n.broken (S.stored n.store) n.unfinished n.kept };
 }
 
 impl<S: StableStore> Node<S> {
@@ -85,7 +78,6 @@ impl<S: StableStore> Node<S> {
             broken: false,
             unfinished: None,
             stopped: None,
-            idle: None,
         }
     }
 
@@ -102,10 +94,10 @@ impl<S: StableStore> Node<S> {
     {
         self.judge()?;
         let given = Snapshot::of(&input);
-        let (foreseen, packet) = self.kept.step(input, &self.idle)?;
+        let (step, packet) = self.kept.step(input)?;
         Ok(Pending {
             given,
-            foreseen,
+            step,
             packet,
             was: Snapshot::of(&self.kept),
         })
@@ -130,12 +122,7 @@ impl<S: StableStore> Node<S> {
         ensures goes_on { GoesOn (S.stored self.old.store) (S.stored self.new.store) }
     {
         self.judge()?;
-        let Pending {
-            foreseen,
-            packet,
-            ..
-        } = pending;
-        let Foreseen { step, idle } = foreseen;
+        let Pending { step, packet, .. } = pending;
         let Step {
             outputs,
             change,
@@ -144,7 +131,6 @@ impl<S: StableStore> Node<S> {
         match save(&mut self.store, &change) {
             Ok(()) => {
                 self.kept.install(next);
-                self.idle = idle;
                 Ok(outputs)
             }
             Err(StepFault::Device) => {
@@ -187,7 +173,6 @@ impl<S: StableStore> Node<S> {
     {
         let Step { outputs, next, .. } = step;
         self.kept.install(next);
-        self.idle = None;
         outputs
     }
 
@@ -199,11 +184,9 @@ impl<S: StableStore> Node<S> {
         ensures taken { HasTaken self.old pending.input self.new result }
         ensures store { self.new.store ≡ self.old.store }
     {
-        let Pending { foreseen, .. } = pending;
-        let Foreseen { step, idle } = foreseen;
+        let Pending { step, .. } = pending;
         let Step { outputs, next, .. } = step;
         self.kept.install(next);
-        self.idle = idle;
         outputs
     }
 
@@ -257,7 +240,6 @@ impl<S: StableStore> Node<S> {
                 self.stopped = told(&kept, self.unfinished.take());
                 self.kept = kept;
                 self.broken = false;
-                self.idle = None;
                 Ok(Life::of(setup.node(), self.kept.incarnation()))
             }
             Err(fault) => {

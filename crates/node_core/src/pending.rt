@@ -5,7 +5,7 @@ ghost use Rattle.node_model.specs.Stepped.{stepped};
 ghost use Rattle.node_kept.specs.Keeping.{kept_of};
 ghost use Rattle.node_kept.specs.Steps.{input_of, outputs_of};
 
-use node_kept::{Foreseen, Kept};
+use node_kept::{Kept, Step};
 use node_parts::{Input, Outputs};
 use std::marker::Model;
 use std::snapshot::Snapshot;
@@ -16,7 +16,7 @@ use synod_acceptor::Packet;
 #[derive(Drop)]
 pub struct Pending {
     pub(crate) given: Snapshot<Input>,
-    pub(crate) foreseen: Foreseen,
+    pub(crate) step: Step,
     // The packet that came, if one did: only its step saves anything.
     pub(crate) packet: Option<Packet>,
     pub(crate) was: Snapshot<Kept>,
@@ -27,11 +27,11 @@ impl Model for Pending {
 
     ghost Value = { Awaited };
 
-    ghost use Rattle.node_core.specs.Pendings.{IsForeseen};
+    ghost use Rattle.node_kept.specs.Preparing.{IsPrepared};
 
     ghost view = { λ p. record { was = p.was.value; input = p.given.value } };
 
-    ghost invariant = { λ p. IsForeseen p.was.value p.given.value p.foreseen p.packet };
+    ghost invariant = { λ p. IsPrepared p.was.value p.given.value p.step p.packet };
 }
 
 impl Pending {
@@ -40,6 +40,6 @@ impl Pending {
         ensures { outputs_of result.now ≡ (stepped self.now.was.setup (kept_of self.now.was)
             (input_of self.now.was.setup (kept_of self.now.was) self.now.input)).outputs }
     {
-        &self.foreseen.step.outputs
+        &self.step.outputs
     }
 }

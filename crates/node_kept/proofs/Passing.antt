@@ -9,7 +9,6 @@ use Rattle.waiting_requests.specs.Waiting.{held_in}
 use Rattle.fate_chain.specs.declared.decree.Author.{Author}
 use Rattle.tick_rules.specs.declared.standpoint.Standpoint.{Standpoint}
 use Rattle.node_parts.specs.Living.{AreRising}
-use Rattle.node_parts.proofs.Decided.{no_rule}
 use Rattle.node_parts.proofs.Rising.{each}
 use Rattle.node_kept.specs.declared.kept.Kept.{Kept as Holding}
 use Rattle.node_kept.specs.declared.turn_list.TurnList.{TurnList}
@@ -26,18 +25,18 @@ module _ (k : Holding) (clock : ℕ) (up : List ℕ → Bool) (turns : TurnList)
   abbrev at : Standpoint
   at = record { author = author; clock = clock }
 
-  not_turned : (id : ℕ) → IsPassed k clock id → IsTurnOf k id at up None
+  not_turned : (id : ℕ) → IsPassed k at up id → IsTurnOf k id at up None
   not_turned id is = record {
     from = is.message;
     taken = taken_there k id is.message is.kept;
     same = tt;
     turned_is = λ setup kept rest of.
-        sym (ap (ruled setup kept id) (no_rule setup kept (timely clock (held_in k.queue)) up id is.message at rest is.settled.decided is.unasked));
+        sym (ap (ruled setup kept id) (is.asleep.unruled setup kept (timely clock (held_in k.queue)) rest is.unasked));
   }
 
   -- those before an id are passed
   pub passes : (id : ℕ) (left : List ℕ) → IsTurning k clock up left turns → AreRising left →
-      ((other : ℕ) → In other left → other < id → IsPassed k clock other) →
+      ((other : ℕ) → In other left → other < id → IsPassed k at up other) →
       IsTurning k clock up (filter (nat_le id) left) turns
   passes id [] is rise passed = is
   passes id (x ∷ xs) is rise passed = by_test (nat_le id x) refl (λ here. passes id xs here rise.1 (λ other among before. passed other (inr among) before))
@@ -56,7 +55,7 @@ module _ (k : Holding) (clock : ℕ) (up : List ℕ → Bool) (turns : TurnList)
   All_ids = ids_of (ticked (kept_of k) clock)
 
   -- once the next message is found: it comes first of those that are left
-  pub next_turning : (walk : Walk) (id : ℕ) → AreRising All_ids → IsNext k clock walk id → IsTurning k clock up (ids_left k clock walk) turns →
+  pub next_turning : (walk : Walk) (id : ℕ) → AreRising All_ids → IsNext k at up walk id → IsTurning k clock up (ids_left k clock walk) turns →
       IsTurning k clock up (id ∷ filter (nat_le (suc id)) All_ids) turns
   next_turning walk id rise next is =
       subst (λ (ids : List ℕ). IsTurning k clock up ids turns) (left_from walk.from id All_ids next.from ∙ first_left id All_ids rise next.among)
@@ -64,12 +63,12 @@ module _ (k : Holding) (clock : ℕ) (up : List ℕ → Bool) (turns : TurnList)
       (λ other among before. let there = in_left walk.from other All_ids among in next.passed other there.0 there.1 before))
 
   -- once none is left
-  pub all_turned : (walk : Walk) → AreRising All_ids → ((other : ℕ) → In other All_ids → walk.from ≤ other → IsPassed k clock other) →
+  pub all_turned : (walk : Walk) → AreRising All_ids → ((other : ℕ) → In other All_ids → walk.from ≤ other → IsPassed k at up other) →
       IsTurning k clock up (ids_left k clock walk) turns → IsTurned k clock up All_ids turns
   all_turned walk rise passed is = over (ids_left k clock walk) is (rise_left walk.from All_ids rise)
       (λ other among. let there = in_left walk.from other All_ids among in passed other there.0 there.1)
     where
-      over : (left : List ℕ) → IsTurning k clock up left turns → AreRising left → ((other : ℕ) → In other left → IsPassed k clock other) →
+      over : (left : List ℕ) → IsTurning k clock up left turns → AreRising left → ((other : ℕ) → In other left → IsPassed k at up other) →
           IsTurned k clock up All_ids turns
       over [] here rises each_passed = turning_ends k clock up [] turns here refl
       over (x ∷ xs) here rises each_passed =

@@ -117,29 +117,3 @@ pub ticked_at : (k : Holding) (moment clock : ℕ) (up : List ℕ → Bool) (tur
 ticked_at k moment clock up turns step at is turned =
     ticked_step k moment up turns step (subst (λ (c : ℕ). IsTickStep k c turns step) at is)
     (subst (λ (c : ℕ). IsTurned k c up (ids_of (ticked (kept_of k) c)) turns) at turned)
-
--- ---- one that keeps each message, but for its round, and gives nothing out
-
-still_leaves : (k : Holding) (moment : ℕ) (up : List ℕ → Bool) (turns : TurnList) →
-    IsTurned k (max k.clock moment) up (ids_of (ticked (kept_of k) (max k.clock moment))) turns → turns.messages.items ≡ [] →
-    asked_again k.setup (ticked (kept_of k) (max k.clock moment)) ++ map packet_of turns.packets.items ≡ [] →
-    map late_reply (filter (is_late (max k.clock moment)) (held_in k.queue)) ≡ [] →
-    on_tick k.setup (kept_of k) moment up ≡ leaves (ticked (kept_of k) (max k.clock moment))
-still_leaves k moment up turns turned none packets late =
-    let clock = max k.clock moment in
-    let messages = ap (λ (puts : List Put). map filed_as (entries_after (map rested_entry k.messages.entries) puts)) none ∙ rested_filed k.messages.entries in
-    ap (rules_then k.setup (ticked (kept_of k) clock) (map late_reply (filter (is_late clock) (held_in k.queue)))) turned.made
-    ∙ (λ i. record {
-      kept = record (ticked (kept_of k) clock) { messages = messages i };
-      outputs = record nothing { packets = packets i; replies = late i };
-    })
-
--- at the clock of the code
-pub still_at : (k : Holding) (moment clock : ℕ) (up : List ℕ → Bool) (turns : TurnList) → clock ≡ max k.clock moment →
-    IsTurned k clock up (ids_of (ticked (kept_of k) clock)) turns → turns.messages.items ≡ [] →
-    asked_again k.setup (ticked (kept_of k) clock) ++ map packet_of turns.packets.items ≡ [] → map late_reply (filter (is_late clock) (held_in k.queue)) ≡ [] →
-    on_tick k.setup (kept_of k) moment up ≡ leaves (ticked (kept_of k) (max k.clock moment))
-still_at k moment clock up turns at turned none packets late =
-    still_leaves k moment up turns (subst (λ (c : ℕ). IsTurned k c up (ids_of (ticked (kept_of k) c)) turns) at turned) none
-    (subst (λ (c : ℕ). asked_again k.setup (ticked (kept_of k) c) ++ map packet_of turns.packets.items ≡ []) at packets)
-    (subst (λ (c : ℕ). map late_reply (filter (is_late c) (held_in k.queue)) ≡ []) at late)

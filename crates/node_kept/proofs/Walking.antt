@@ -1,4 +1,4 @@
--- A tick goes over the messages that are live and those of which requests ask once, by ascending ids.
+-- A tick goes over the messages that are live and not asleep and those of which requests ask once, by ascending ids.
 use Rattle.std.proofs.Common.{◌≡◌, ◌⊎◌, ℕ, suc, ◌<◌, ◌≤◌, Bool, true, false, cond, List, [], ◌∷◌, length, Option, Some, None, refl, sym}
 use Rattle.std.proofs.Common.{ap, subst, ◌∙◌, inl, inr, arith}
 use Rattle.std.specs.Prelude.{◌==◌, ◌≢◌, filter, nat_le, nat_lt, if◌then◌else◌}
@@ -19,7 +19,9 @@ use Rattle.waiting_requests.specs.Queues.{timely}
 use Rattle.waiting_requests.specs.Waiting.{held_in}
 use Rattle.shelf.specs.Shelved.{value_at}
 use Rattle.node_parts.specs.declared.message.Message.{Message as Filed}
-use Rattle.node_parts.specs.Living.{AreRising, IsNextLive, IsSettled}
+use Rattle.tick_rules.specs.declared.standpoint.Standpoint.{Standpoint}
+use Rattle.node_parts.specs.Living.{AreRising, IsNextBy}
+use Rattle.node_parts.specs.Sleeping.{IsAsleep}
 use Rattle.node_parts.proofs.Rising.{each, in_put, put_in, rise_of, rise_put}
 use Rattle.node_kept.specs.declared.kept.Kept.{Kept as Holding}
 use Rattle.node_kept.specs.declared.walk.Walk.{Walk}
@@ -108,9 +110,18 @@ is_kept (e ∷ es) id among = by_test (is_at (nat_cmp id) e.0) refl among (is_ke
     by_test false at (inl same) rest = let here : is_at (nat_cmp id) e.0 ≡ true = rw same (at_itself e.0) in absurd (true≢false (sym here ∙ at))
     by_test false at (inr later) rest = rest later
 
+-- what is so of all that are passed by
+pub next_by : (P Q : ℕ → Filed → Type 0) (entries : List (ℕ × Filed)) (from : ℕ) (next : Option ℕ) → ((id : ℕ) (m : Filed) → P id m → Q id m) →
+    IsNextBy P entries from next → IsNextBy Q entries from next
+next_by P Q entries from None so is = λ id m found above. so id m (is id m found above)
+next_by P Q entries from (Some next) so is = (is.0, (is.1.0, λ id m found above before. so id m (is.1.1 id m found above before)))
+
 -- ---- a walk
 
-module _ (k : Holding) (clock : ℕ) where
+module _ (k : Holding) (s : Standpoint) (up : List ℕ → Bool) where
+  abbrev clock : ℕ
+  clock = s.clock
+
   abbrev Asked : List ℕ
   Asked = ids_in (timely clock (held_in k.queue))
 
@@ -133,18 +144,18 @@ module _ (k : Holding) (clock : ℕ) where
   rise_all ascends = subst AreRising (sym all_is) (rise_with (timely clock (held_in k.queue)) (keys_of k.messages.entries)
       (rise_of (keys_of k.messages.entries) ascends))
 
-  pub walk_begins : (walk : Walk) → walk.from ≡ 0 → IsNextLive k.messages.entries 0 walk.live → IsLeastFrom 0 Is_asked walk.asked → IsWalk k clock walk
+  pub walk_begins : (walk : Walk) → walk.from ≡ 0 → IsNextBy (IsAsleep s up) k.messages.entries 0 walk.live → IsLeastFrom 0 Is_asked walk.asked → IsWalk k s up walk
   walk_begins walk from live asked = record {
-    live = subst (λ (n : ℕ). IsNextLive k.messages.entries n walk.live) (sym from) live;
+    live = subst (λ (n : ℕ). IsNextBy (IsAsleep s up) k.messages.entries n walk.live) (sym from) live;
     asked = subst (λ (n : ℕ). IsLeastFrom n Is_asked walk.asked) (sym from) asked;
   }
 
-  -- a message of which no request asks, and which is not live
+  -- a message of which no request asks, and which is asleep
   pub record IsPassed (id : ℕ) : Type 0 where
     pub unasked : In id Asked → ⊥
     pub message : Filed
     pub kept : value_at k.messages.entries id ≡ Some message
-    pub settled : IsSettled id message
+    pub asleep : IsAsleep s up id message
 
   -- the next message is that of this id
   pub record IsNext (walk : Walk) (id : ℕ) : Type 0 where
@@ -152,8 +163,8 @@ module _ (k : Holding) (clock : ℕ) where
     pub from : walk.from ≤ id
     pub passed : (other : ℕ) → In other All_ids → walk.from ≤ other → other < id → IsPassed other
     pub on : (new : Walk) → new.from ≡ suc id → (walk.live ≢ Some id → new.live ≡ walk.live) →
-        (walk.live ≡ Some id → IsNextLive k.messages.entries (suc id) new.live) →
-        (walk.asked ≢ Some id → new.asked ≡ walk.asked) → (walk.asked ≡ Some id → IsLeastFrom (suc id) Is_asked new.asked) → IsWalk k clock new
+        (walk.live ≡ Some id → IsNextBy (IsAsleep s up) k.messages.entries (suc id) new.live) →
+        (walk.asked ≢ Some id → new.asked ≡ walk.asked) → (walk.asked ≡ Some id → IsLeastFrom (suc id) Is_asked new.asked) → IsWalk k s up new
 
   same_or : (id : ℕ) (it : Option ℕ) → (it ≡ Some id) ⊎ (it ≢ Some id)
   same_or id None = inr (λ same. absurd (cc))
@@ -168,7 +179,7 @@ module _ (k : Holding) (clock : ℕ) where
   Asked_from id None = Unit {0}
   Asked_from id (Some first) = id ≤ first
 
-  module _ (walk : Walk) (is : IsWalk k clock walk) (id : ℕ) (from : walk.from ≤ id) (live_from : Asked_from id walk.live)
+  module _ (walk : Walk) (is : IsWalk k s up walk) (id : ℕ) (from : walk.from ≤ id) (live_from : Asked_from id walk.live)
       (asked_from : Asked_from id walk.asked) where
     asked_later : (other : ℕ) → Is_asked other → walk.from ≤ other → id ≤ other
     asked_later other among from_there = by_asked walk.asked is.asked asked_from
@@ -177,10 +188,10 @@ module _ (k : Holding) (clock : ℕ) where
         by_asked None least after = let below = least other among in absurd (omega (arith, below, from_there))
         by_asked (Some first) least after = let lower = least.1.1 other among from_there in omega (arith, lower, after)
 
-    settled_before : (other : ℕ) (m : Filed) → value_at k.messages.entries other ≡ Some m → walk.from ≤ other → other < id → IsSettled other m
-    settled_before other m found from_there before = by_live walk.live is.live live_from
+    asleep_before : (other : ℕ) (m : Filed) → value_at k.messages.entries other ≡ Some m → walk.from ≤ other → other < id → IsAsleep s up other m
+    asleep_before other m found from_there before = by_live walk.live is.live live_from
       where
-        by_live : (live : Option ℕ) → IsNextLive k.messages.entries walk.from live → Asked_from id live → IsSettled other m
+        by_live : (live : Option ℕ) → IsNextBy (IsAsleep s up) k.messages.entries walk.from live → Asked_from id live → IsAsleep s up other m
         by_live None next after = next other m found from_there
         by_live (Some first) next after = next.1.1 other m found from_there (omega (arith, before, after))
 
@@ -190,15 +201,15 @@ module _ (k : Holding) (clock : ℕ) where
         elim (in_all other among) [
           | inl kept ↦
               let found = is_kept k.messages.entries other kept in
-              record { unasked = unasked; message = found.0; kept = found.1; settled = settled_before other found.0 found.1 from_there before }
+              record { unasked = unasked; message = found.0; kept = found.1; asleep = asleep_before other found.0 found.1 from_there before }
           | inr asked ↦ absurd (unasked asked)
         ]
 
-    live_then : (live : Option ℕ) → walk.live ≡ live → live ≢ Some id → IsNextLive k.messages.entries (suc id) live
-    live_then None at differs = let next = subst (IsNextLive k.messages.entries walk.from) at is.live in
+    live_then : (live : Option ℕ) → walk.live ≡ live → live ≢ Some id → IsNextBy (IsAsleep s up) k.messages.entries (suc id) live
+    live_then None at differs = let next = subst (IsNextBy (IsAsleep s up) k.messages.entries walk.from) at is.live in
         λ other m found above. next other m found (omega (arith, above, from))
     live_then (Some first) at differs =
-        let next = subst (IsNextLive k.messages.entries walk.from) at is.live in
+        let next = subst (IsNextBy (IsAsleep s up) k.messages.entries walk.from) at is.live in
         let after : id ≤ first = subst (Asked_from id) at live_from in
         let higher : suc id ≤ first = elim (cases_Bool (first == id)) [
           | inl same ↦ absurd (differs (ap (λ (n : ℕ). Some n) ((Decides-eqb first id).0 same)))
@@ -224,9 +235,9 @@ module _ (k : Holding) (clock : ℕ) where
       from = from;
       passed = passed_before;
       on = λ new begins same_live live same_asked asked. record {
-        live = subst (λ (n : ℕ). IsNextLive k.messages.entries n new.live) (sym begins) (elim (same_or id walk.live) [
+        live = subst (λ (n : ℕ). IsNextBy (IsAsleep s up) k.messages.entries n new.live) (sym begins) (elim (same_or id walk.live) [
           | inl is_it ↦ live is_it
-          | inr differs ↦ subst (IsNextLive k.messages.entries (suc id)) (sym (same_live differs)) (live_then walk.live refl differs)
+          | inr differs ↦ subst (IsNextBy (IsAsleep s up) k.messages.entries (suc id)) (sym (same_live differs)) (live_then walk.live refl differs)
         ]);
         asked = subst (λ (n : ℕ). IsLeastFrom n Is_asked new.asked) (sym begins) (elim (same_or id walk.asked) [
           | inl is_it ↦ asked is_it
@@ -235,12 +246,12 @@ module _ (k : Holding) (clock : ℕ) where
       };
     }
 
-  pub next_is : (walk : Walk) → IsWalk k clock walk → (id : ℕ) → next_of walk.live walk.asked ≡ Some id → IsNext walk id
+  pub next_is : (walk : Walk) → IsWalk k s up walk → (id : ℕ) → next_of walk.live walk.asked ≡ Some id → IsNext walk id
   next_is walk is id next = by_both walk.live walk.asked refl refl next
     where
       live_one : (first : ℕ) → walk.live ≡ Some first → Asked_from first walk.asked → IsNext walk first
       live_one first at asked_from =
-          let live = subst (IsNextLive k.messages.entries walk.from) at is.live in
+          let live = subst (IsNextBy (IsAsleep s up) k.messages.entries walk.from) at is.live in
           it_is_next walk is first live.1.0 (subst (Asked_from first) (sym at) (omega arith)) asked_from (all_in first (inl live.0))
 
       asked_one : (first : ℕ) → walk.asked ≡ Some first → Asked_from first walk.live → IsNext walk first
@@ -266,7 +277,7 @@ module _ (k : Holding) (clock : ℕ) where
               so first (live_one first live_is (subst (Asked_from first) (sym asked_is) lower)) it
 
   -- all that are left are passed
-  pub all_passed : (walk : Walk) → IsWalk k clock walk → next_of walk.live walk.asked ≡ None → (other : ℕ) → In other All_ids →
+  pub all_passed : (walk : Walk) → IsWalk k s up walk → next_of walk.live walk.asked ≡ None → (other : ℕ) → In other All_ids →
       walk.from ≤ other →
       IsPassed other
   all_passed walk is none other among from_there = by_both walk.live walk.asked refl refl none

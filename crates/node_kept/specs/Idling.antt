@@ -34,19 +34,3 @@ FindsNothing setup k (Request account request) = ⊥
 FindsNothing setup k (Grant id) = ⊥
 FindsNothing setup k (Answered slot outcome) = ⊥
 FindsNothing setup k (Tick moment up) = IsIdle setup k (max k.clock moment) (is_up up.items)
-
--- ---- one after another
-
--- a step of a tick that keeps each message, but for its round, and gives nothing out
-pub record IsStill (step : Step) : Type 0 where
-  pub messages : step.next.messages.items ≡ []
-  pub packets : step.outputs.packets.items ≡ []
-  pub replies : step.outputs.replies.items ≡ []
-
--- with these accounts, if they are noted, a tick at the clock of a node that keeps this changes nothing and gives nothing out
-abbrev pub IsQuiet : Setup → Kept → Option (Vec (List ℕ)) → Type 0
-IsQuiet setup k idle = IfSome idle (λ up. on_tick setup k k.clock (is_up up.items) ≡ leaves k)
-
--- so it is after the step for this input
-abbrev pub IsQuietFor : Holding → Input → Option (Vec (List ℕ)) → Type 0
-IsQuietFor k input idle = IsQuiet k.setup (stepped k.setup (kept_of k) (input_of k.setup (kept_of k) input)).kept idle

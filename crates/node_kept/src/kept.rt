@@ -16,7 +16,7 @@ ghost use Rattle.shelf.specs.Shelved.{value_at};
 ghost use Rattle.synod_acceptor.specs.Records.{entries_of, record_at};
 ghost use Rattle.synod_acceptor.specs.Votes.{report_of, slot_in, slot_reported, told_vote, vote_of};
 ghost use Rattle.node_parts.specs.Lists.{listed};
-ghost use Rattle.node_kept.specs.Idling.{FindsNothing, IsQuiet, IsQuietFor};
+ghost use Rattle.node_kept.specs.Idling.{FindsNothing};
 ghost use Rattle.node_kept.specs.Keeping.{AreOwn, IsFiled, IsOpen, IsTaken, kept_of};
 ghost use Rattle.node_kept.specs.Listing.{ListsRecorded};
 ghost use Rattle.node_kept.specs.Queueing.{HasPlace, requeued};
@@ -31,7 +31,7 @@ ghost use Rattle.node_model.specs.Reported.{receipt_of};
 
 use crate::queue_change::QueueChange;
 use crate::setup::Setup;
-use crate::step::{Counted, Foreseen, Next, Put, Step};
+use crate::step::{Counted, Next, Put, Step};
 use fate_chain::{Author, Chain};
 use mc_types::{Ballot, Incarnation, Moment, MsgId, NodeNo, Slot};
 use node_parts::{Input, Message, MessageShelf, Outputs, StepFault, sender};
@@ -113,42 +113,36 @@ impl Kept {
         Ok(())
     }
 
-    /// The step that an input leads to, of which `idle` has the accounts with which a tick at this clock does nothing, if that is known, and
-    /// the packet that came, if one did. It changes nothing, and copies what is kept of the input's message alone, or of those that a tick
-    /// does not leave as they are. A refusal comes before any memory is taken, and a tick that finds nothing due takes none.
+    /// The step that an input leads to, and the packet that came, if one did. It changes nothing, and copies what is kept of the input's message
+    /// alone, or of those that a tick does not leave as they are. A refusal comes before any memory is taken, and a tick that finds nothing due
+    /// takes none.
     #[inline(always)]
-    pub fn step(
-        &self,
-        input: Input,
-        idle: &Option<Vec<SystemId>>,
-    ) -> Result<(Foreseen, Option<Packet>), StepFault>
-        requires own { AreOwn self.now }
-        requires idle { IsQuiet self.now.setup (kept_of self.now) idle.now }
-        ensures ok { IfOk result (λ prepared. IsPrepared self.now input prepared.0.step prepared.1) }
-        ensures quiet { IfOk result (λ prepared. IsQuietFor self.now input prepared.0.idle) }
+    pub fn step(&self, input: Input) -> Result<(Step, Option<Packet>), StepFault>
+        requires { AreOwn self.now }
+        ensures ok { IfOk result (λ prepared. IsPrepared self.now input prepared.0 prepared.1) }
         ensures faults { IfErr result (IsFault (refused_by self.now.setup (kept_of self.now) input)) }
         ensures idle { FindsNothing self.now.setup (kept_of self.now) input → IsOk result }
     {
         match input {
             Input::Packet(packet) => {
                 let step = self.on_packet(&packet)?;
-                Ok((alone(step), Some(packet)))
+                Ok((step, Some(packet)))
             }
             Input::Request(account, request) => {
                 let step = self.on_request(&account, request)?;
-                Ok((alone(step), None))
+                Ok((step, None))
             }
             Input::Grant(id) => {
                 let step = self.on_grant(id)?;
-                Ok((alone(step), None))
+                Ok((step, None))
             }
             Input::Answered(slot, outcome) => {
                 let step = self.on_answered(slot, outcome)?;
-                Ok((alone(step), None))
+                Ok((step, None))
             }
             Input::Tick(moment, up) => {
-                let foreseen = self.tick(moment, up, idle)?;
-                Ok((foreseen, None))
+                let step = self.on_tick(moment, up)?;
+                Ok((step, None))
             }
         }
     }
@@ -222,6 +216,7 @@ impl Kept {
             queue,
             messages,
             room,
+            up,
         } = next;
         self.clock = clock;
         self.serial = serial;
@@ -233,6 +228,8 @@ impl Kept {
         count_if(&mut self.messages, counted);
         rest_if(&mut self.messages, drops_rounds);
         put_each(&mut self.messages, messages);
+        let at = self.standpoint();
+        doze_if(&mut self.messages, &at, up);
     }
 
     /// Whether the node is one of the cluster.
@@ -272,6 +269,7 @@ impl Kept {
         ensures queue { result.queue ≡ Same }
         ensures messages { result.messages.items ≡ [] }
         ensures room { result.room ≡ None }
+        ensures up { result.up ≡ None }
     {
         Next {
             clock: self.clock,
@@ -282,6 +280,7 @@ impl Kept {
             queue: QueueChange::Same,
             messages: Vec::new(self.alloc),
             room: None,
+            up: None,
         }
     }
 
@@ -668,15 +667,6 @@ impl Kept {
     }
 }
 
-/// A step after which it is not known if a tick does anything.
-#[inline(always)]
-fn alone(step: Step) -> Foreseen
-    ensures step { result.step ≡ step }
-    ensures idle { result.idle ≡ None }
-{
-    Foreseen { step, idle: None }
-}
-
 /// Makes of the requests that wait what a step makes of them. It takes no memory.
 #[inline(always)]
 fn requeue(queue: &mut Queue, change: QueueChange, nodes: u8)
@@ -727,5 +717,15 @@ fn put_each(kept: &mut MessageShelf, mut messages: Vec<Put>)
 {
     while let Some(put) = messages.pop() {
         kept.put(put.id, put.message);
+    }
+}
+
+/// Notes until when messages sleep with these accounts, if there are any. It takes no memory.
+#[inline(always)]
+fn doze_if(kept: &mut MessageShelf, at: &Standpoint, up: Option<Vec<SystemId>>)
+    ensures { kept.new.entries ≡ kept.old.entries }
+{
+    if let Some(up) = up {
+        kept.doze(at, up);
     }
 }

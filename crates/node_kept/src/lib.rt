@@ -18,5 +18,5 @@ mod walk;
 pub use kept::Kept;
 pub use queue_change::QueueChange;
 pub use setup::Setup;
-pub use step::{Counted, Foreseen, Next, Put, Step};
+pub use step::{Counted, Next, Put, Step};
 pub use stopped::{Found, Stopped, told};

@@ -22,7 +22,8 @@ pub struct Counted {
 
 /// What is kept after a step: the clock, the serial of the next message, how many tickets are given, the vote that is counted anew, if one is,
 /// whether all rounds end, what becomes of the requests that wait, and then each message that is not kept as it was, with room for them, if
-/// room is wanted. Of several messages of an id the first counts.
+/// room is wanted. Of several messages of an id the first counts. A tick has the accounts with which it was made: with these it is noted until
+/// when messages sleep.
 #[derive(Drop)]
 pub struct Next {
     pub clock: Moment,
@@ -33,6 +34,7 @@ pub struct Next {
     pub queue: QueueChange,
     pub messages: Vec<Put>,
     pub room: Option<MessageRoom>,
+    pub up: Option<Vec<SystemId>>,
 }
 
 /// What a step gives out, the change that is saved before, if any, and what is kept after it.
@@ -41,11 +43,4 @@ pub struct Step {
     pub outputs: Outputs,
     pub change: Option<Change>,
     pub next: Next,
-}
-
-/// A step, and the accounts with which a tick does nothing after it, if that is known.
-#[derive(Drop)]
-pub struct Foreseen {
-    pub step: Step,
-    pub idle: Option<Vec<SystemId>>,
 }

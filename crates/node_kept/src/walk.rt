@@ -5,8 +5,9 @@ ghost use Rattle.node_kept.specs.Walking.{next_of};
 
 use mc_types::MsgId;
 
-/// Where a tick stands that goes over the messages that are live and those of which requests ask, by ascending ids: all messages of ids below
-/// `from` were looked at or are settled. `live` is the first other one that is live, `asked` the first other one of which a request asks.
+/// Where a tick stands that goes over the messages that are live and not noted to be asleep, and those of which requests ask, by ascending ids: all
+/// messages of ids below `from` were looked at, or no rule fits them. `live` is the first other one that is live so, `asked` the first other one of
+/// which a request asks.
 #[derive(Clone, Copy)]
 pub struct Walk {
     pub from: u64,

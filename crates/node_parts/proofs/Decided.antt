@@ -29,17 +29,17 @@ use Rattle.node_parts.proofs.Ticks.{goes_on}
 
 -- ---- no request asks of it
 
-apart : (id : ℕ) (h : Held) (others : List Held) → (In id (ids_in (h ∷ others)) → ⊥) → (id_of h == id) ≡ false
+pub apart : (id : ℕ) (h : Held) (others : List Held) → (In id (ids_in (h ∷ others)) → ⊥) → (id_of h == id) ≡ false
 apart id h others unasked = elim (cases_Bool (id_of h == id)) [
   | inl same ↦ absurd (unasked (inl (sym ((Decides-eqb (id_of h) id).0 same))))
   | inr differs ↦ differs
 ]
 
-none_taken : (setup : Setup) (k : Kept) (id : ℕ) (held : List Held) → (In id (ids_in held) → ⊥) → taken_for setup k id held ≡ None
+pub none_taken : (setup : Setup) (k : Kept) (id : ℕ) (held : List Held) → (In id (ids_in held) → ⊥) → taken_for setup k id held ≡ None
 none_taken setup k id [] unasked = refl
 none_taken setup k id (h ∷ others) unasked = rw (apart id h others unasked) (none_taken setup k id others (λ later. unasked (inr later)))
 
-none_shown : (id : ℕ) (held : List Held) (top : Option TopVote) → (In id (ids_in held) → ⊥) → shown_to id held top ≡ top
+pub none_shown : (id : ℕ) (held : List Held) (top : Option TopVote) → (In id (ids_in held) → ⊥) → shown_to id held top ≡ top
 none_shown id [] top unasked = refl
 none_shown id (h ∷ others) top unasked = rw (apart id h others unasked) (none_shown id others top (λ later. unasked (inr later)))
 

@@ -11,7 +11,7 @@ use Rattle.std.proofs.lemmas.Bool.Decides.{nat_tests}
 use Rattle.std.proofs.lemmas.Cmp.{ranked}
 use Rattle.mc_model.specs.synod.Lists.{In}
 use Rattle.waiting_requests.specs.Numbers.{IsLeastFrom}
-use Rattle.node_parts.specs.Living.{AreRising, IsPlaceOf}
+use Rattle.node_parts.specs.Living.{AreRising, IsCut, IsPlaceOf}
 use Rattle.node_parts.proofs.Rising.{each}
 
 -- ---- one after another
@@ -29,12 +29,6 @@ rises (x ∷ xs) (suc one) (suc other) d rise lower within = rises xs one other 
 
 -- ---- where an id stands, or would go
 
--- all before are lower, and the others are not
-pub record IsCut (ids : List ℕ) (id place : ℕ) : Type 0 where
-  pub within : place ≤ length ids
-  pub before : (other d : ℕ) → other < place → get_or ids other d < id
-  pub behind : (other d : ℕ) → place ≤ other → other < length ids → id ≤ get_or ids other d
-
 tail_cut : (x : ℕ) (xs : List ℕ) (id place : ℕ) → IsCut (x ∷ xs) id (suc place) → IsCut xs id place
 tail_cut x xs id place cut = record {
   within = let w = cut.within in omega (arith, w);
@@ -42,7 +36,7 @@ tail_cut x xs id place cut = record {
   behind = λ other d from within. cut.behind (suc other) d (omega (arith, from)) (omega (arith, within));
 }
 
-least_at : (ids : List ℕ) (id place : ℕ) → AreRising ids → IsCut ids id place → IsLeastFrom id (λ other. In other ids) (slice_get ids place)
+pub least_at : (ids : List ℕ) (id place : ℕ) → AreRising ids → IsCut ids id place → IsLeastFrom id (λ other. In other ids) (slice_get ids place)
 least_at [] id place rise cut = λ other none. absurd none
 least_at (x ∷ xs) id zero rise cut = (inl refl, (cut.behind zero zero (omega arith) (omega arith), λ other among from. first other among))
   where
@@ -83,16 +77,24 @@ put_between (x ∷ xs) id (suc place) cut above =
 never_falls : (ids : List ℕ) (one other d : ℕ) → AreRising ids → one ≤ other → other < length ids → get_or ids one d ≤ get_or ids other d
 never_falls ids one other d rise from within = grind (arith, rises ids one other d rise, λ (same : one ≡ other). ap (λ (k : ℕ). get_or ids k d) same)
 
+found_at : (ids : List ℕ) (place d : ℕ) → place < length ids → slice_get ids place ≡ Some (get_or ids place d)
+found_at [] place d within = absurd (omega (arith, within))
+found_at (x ∷ xs) zero d within = refl
+found_at (x ∷ xs) (suc place) d within = found_at xs place d (omega (arith, within))
+
 pub searched : (ids : List ℕ) (id : ℕ) → AreRising ids → (found : Result ℕ ℕ) → IsSearchInRange found (length ids) →
     IsBinarySearchResult (λ (other : ℕ). nat_cmp other id) ids found → IsPlaceOf ids id found
 searched ids id rise (Ok place) within equal =
     let here : (d : ℕ) → get_or ids place d ≡ id = λ d. ranked _ id _ (sym (equal d)) in (
       put_there ids id place zero rise within (here zero),
-      least_at ids id place rise (record {
-        within = omega (arith, within);
-        before = λ other d lower. let less = rises ids other place d rise lower within in let at = here d in omega (arith, less, at);
-        behind = λ other d from inside. let more = never_falls ids place other d rise from inside in let at = here d in omega (arith, more, at);
-      }),
+      (
+        found_at ids place zero within ∙ ap (λ (n : ℕ). Some n) (here zero),
+        record {
+          within = omega (arith, within);
+          before = λ other d lower. let less = rises ids other place d rise lower within in let at = here d in omega (arith, less, at);
+          behind = λ other d from inside. let more = never_falls ids place other d rise from inside in let at = here d in omega (arith, more, at);
+        },
+      ),
     )
 searched ids id rise (Err place) within parted =
     let compare : IsNonDecreasingBy (λ (other : ℕ). ordering_index (nat_cmp other id)) ids =
@@ -105,7 +107,7 @@ searched ids id rise (Err place) within parted =
       before = λ other d lower. ranked _ id _ (sym ((parted compare).0 other d (omega (arith, lower, within)) lower));
       behind = λ other d from inside. let more = above other d from inside in omega (arith, more);
     } in
-    (put_between ids id place cut above, (within, least_at ids id place rise cut))
+    (put_between ids id place cut above, cut)
 
 -- ---- how many they are
 

@@ -9,3 +9,8 @@ pub mod Rising
 pub mod IdLists
 pub mod Living
 pub mod Counting
+pub mod Accounts
+pub mod Sleeping
+pub mod Listings
+pub mod Dozing
+pub mod Dropping

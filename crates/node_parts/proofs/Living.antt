@@ -1,7 +1,7 @@
 -- The list of the messages that are live, as messages are put and rest.
 use Rattle.std.proofs.Common.{◌≡◌, ◌⊎◌, ℕ, suc, ◌+◌, ◌-◌, ◌<◌, ◌≤◌, Bool, true, false, cond, List, [], ◌∷◌, length, map, Option, Some, None, refl, sym}
 use Rattle.std.proofs.Common.{ap, subst, ◌∙◌, inl, inr, arith}
-use Rattle.std.specs.Prelude.{◌==◌, filter, not, option_map}
+use Rattle.std.specs.Prelude.{◌==◌, option_map}
 use Rattle.std.specs.BTreeMap.{is_at}
 use Rattle.std.specs.BTreeSet.{insert_key}
 use Rattle.std.specs.List.Sorted.{IsStrictlySortedBy}
@@ -21,10 +21,10 @@ use Rattle.shelf.specs.Shelved.{value_at, with_value}
 use Rattle.shelf.proofs.Entries.{still_ascends}
 use Rattle.shelf.proofs.Visited.{same_keys, value_visited}
 use Rattle.node_parts.specs.declared.message.Message.{Message as Filed}
-use Rattle.node_parts.specs.Living.{AreListed, IsNextLive, IsSettled, is_decided, is_live}
-use Rattle.node_parts.specs.Messages.{rested, rested_entry}
+use Rattle.node_parts.specs.Living.{AreListed, IsNextLive, IsSettled, is_decided}
+use Rattle.node_parts.specs.Messages.{rested}
 use Rattle.node_parts.specs.Renewal.{renewed}
-use Rattle.node_parts.proofs.IdLists.{no_more, rise_still, stays_in, was_in}
+use Rattle.node_parts.proofs.IdLists.{no_more}
 use Rattle.node_parts.proofs.Rising.{in_put, put_in, rise_of, rise_put}
 
 -- ---- the next one
@@ -40,7 +40,7 @@ next_live_is entries live room from (Some next) listed least = (
 
 -- ---- a message is put
 
-keys_put : (entries : List (ℕ × Filed)) (id : ℕ) (m : Filed) → keys_of (with_value entries id m) ≡ insert_key nat_cmp (keys_of entries) id
+pub keys_put : (entries : List (ℕ × Filed)) (id : ℕ) (m : Filed) → keys_of (with_value entries id m) ≡ insert_key nat_cmp (keys_of entries) id
 keys_put [] id m = refl
 keys_put (e ∷ es) id m = at_order (nat_cmp id e.0) refl (keys_put es id m)
   where
@@ -96,7 +96,7 @@ listings_left entries room id m = let longer = one_longer entries id m in omega 
 
 -- ---- a message that is kept is changed
 
-listed_key : (entries : List (ℕ × Filed)) (id : ℕ) (m : Filed) → value_at entries id ≡ Some m → In id (keys_of entries)
+pub listed_key : (entries : List (ℕ × Filed)) (id : ℕ) (m : Filed) → value_at entries id ≡ Some m → In id (keys_of entries)
 listed_key [] id m found = absurd (cc)
 listed_key (e ∷ es) id m found = by_test (is_at (nat_cmp id) e.0) refl found (listed_key es id m)
   where
@@ -152,7 +152,7 @@ module _ (f : Filed → Filed) (entries : List (ℕ × Filed)) where
   abbrev Visited : List (ℕ × Filed)
   Visited = map (λ (entry : ℕ × Filed). (entry.0, f entry.1)) entries
 
-  visited_from : (id : ℕ) (n : Filed) → value_at Visited id ≡ Some n → (m : Filed) × (value_at entries id ≡ Some m) × (f m ≡ n)
+  pub visited_from : (id : ℕ) (n : Filed) → value_at Visited id ≡ Some n → (m : Filed) × (value_at entries id ≡ Some m) × (f m ≡ n)
   visited_from id n found = by_value (value_at entries id) refl (sym (value_visited f entries id) ∙ found)
     where
       by_value : (was : Option Filed) → value_at entries id ≡ was → option_map f was ≡ Some n → (m : Filed) × (value_at entries id ≡ Some m) × (f m ≡ n)
@@ -176,30 +176,8 @@ module _ (f : Filed → Filed) (entries : List (ℕ × Filed)) where
 pub renewed_settled : (me : Author) (id : ℕ) (m : Filed) → IsSettled id m → IsSettled id (renewed me m)
 renewed_settled me id m is = record { decided = is.decided; rests = is.rests }
 
-rested_settled : (id : ℕ) (m : Filed) → is_decided id m ≡ true → IsSettled id (rested m)
+pub rested_settled : (id : ℕ) (m : Filed) → is_decided id m ≡ true → IsSettled id (rested m)
 rested_settled id m is = record { decided = is; rests = refl }
-
--- ---- all rest, and those that are decided are taken off the list
-
-abbrev pub still : List (ℕ × Filed) → ℕ → Bool
-still entries id = is_live id (value_at entries id)
-
-pub listed_rested : (entries : List (ℕ × Filed)) (live : List ℕ) (room : ℕ) → AreListed entries live room →
-    AreListed (map rested_entry entries) (filter (still (map rested_entry entries)) live) room
-listed_rested entries live room listed =
-    let then_listed = listed_visited rested entries live room (λ id m is. rested_settled id m is.decided) listed in
-    record {
-      rising = rise_still (still (map rested_entry entries)) live listed.rising;
-      kept = λ id among. then_listed.kept id (was_in (still (map rested_entry entries)) live id among);
-      others = λ id n found new.
-          let was = visited_from rested entries id n found in
-          elim (cases_Bool (is_decided id n)) [
-            | inl decided ↦ subst (IsSettled id) was.2 (rested_settled id was.0 (ap (is_decided id) was.2 ∙ decided))
-            | inr differs ↦ then_listed.others id n found (λ among. new (stays_in (still (map rested_entry entries)) live id among
-                (ap (is_live id) found ∙ ap not differs)))
-          ];
-      fits = then_listed.fits;
-    }
 
 -- ---- they are moved into more room
 

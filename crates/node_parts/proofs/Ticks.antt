@@ -82,7 +82,7 @@ module _ (setup : Setup) (k : Kept) (held : List Held) (up : List ℕ → Bool) 
     asked = by ∙ sym (ap (λ (waits : List Held). list_any (cancels id taken) waits) rest.waits);
   }
 
-  due_is : (newest : Decree) (older : List Decree) (cancelled : Bool) (due : Option Due) → IsCancelled (newest ∷ older) cancelled →
+  pub due_is : (newest : Decree) (older : List Decree) (cancelled : Bool) (due : Option Due) → IsCancelled (newest ∷ older) cancelled →
       IsDueBehind s (attempted_in m.attempts (length older)) cancelled up (newest ∷ older) due → IfSome due (MayBeDue s (newest ∷ older)) →
       known_rule setup k up id (Some (newest ∷ older)) ≡ option_map (fitting_for s newest older) due
   due_is newest older cancelled due by behind may = by_taken (taken_in (newest ∷ older)) refl due behind may

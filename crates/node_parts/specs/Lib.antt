@@ -7,6 +7,7 @@ pub mod Attempting
 pub mod Messages
 pub mod Counting
 pub mod Renewal
-pub mod Living
 pub mod Told
 pub mod Turning
+pub mod Sleeping
+pub mod Living

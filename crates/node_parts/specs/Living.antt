@@ -1,5 +1,5 @@
 -- Which messages of a node are live (own).
-use Rattle.std.specs.Prelude.{◌≡◌, ℕ, ◌<◌, ◌≤◌, Bool, true, false, ◌&&◌, not, List, [], ◌∷◌, length, Option, Some, None, Result, Ok, Err}
+use Rattle.std.specs.Prelude.{◌≡◌, ℕ, ◌<◌, ◌≤◌, Bool, true, false, ◌&&◌, ◌||◌, not, is_some, List, [], ◌∷◌, length, get_or, Option, Some, None, Result, Ok, Err, if◌then◌else◌}
 use Rattle.std.specs.BTreeSet.{insert_key}
 use Rattle.std.specs.List.{AllByRecursion, insert, slice_get}
 use Rattle.std.specs.Map.{keys_of}
@@ -9,11 +9,14 @@ use Rattle.mc_model.specs.synod.Lists.{In}
 use Rattle.node_model.specs.Acceptor.{told_of}
 use Rattle.node_model.specs.Answers.{had_fate}
 use Rattle.node_model.specs.Starts.{follow}
-use Rattle.waiting_requests.specs.Numbers.{IsLeastFrom}
-use Rattle.shelf.specs.Shelved.{value_at}
+use Rattle.delivery.specs.Targets.{is_up}
+use Rattle.shelf.specs.Shelved.{value_at, with_value}
 use Rattle.synod_acceptor.specs.Records.{record_at}
+use Rattle.node_parts.specs.declared.listing.Listing.{Listing}
 use Rattle.node_parts.specs.declared.message.Message.{Message as Filed}
-use Rattle.node_parts.specs.Messages.{message_of}
+use Rattle.node_parts.specs.declared.noted.Noted.{Noted}
+use Rattle.node_parts.specs.Messages.{message_of, rested}
+use Rattle.node_parts.specs.Sleeping.{IsAsleep}
 
 -- a final state of a message is known, and no vote of the node's own stands beyond that
 abbrev pub is_decided : ℕ → Filed → Bool
@@ -30,11 +33,13 @@ abbrev pub AreRising : List ℕ → Type 0
 AreRising [] = Unit {0}
 AreRising (id ∷ others) = AllByRecursion (λ (other : ℕ). id < other) others × AreRising others
 
--- the messages that are kept, for how many more there is room, and for how many more there is room to list them
+-- the messages that are kept, for how many more there is room, for how many more there is room to list them, and for whom it is noted until
+-- when they sleep
 pub record Listed : Type 0 where
   pub entries : List (ℕ × Filed)
   pub room : ℕ
   pub listings : ℕ
+  pub noted : Option Noted
 
 -- each message that is kept is listed, or is settled; there is room to list all
 pub record AreListed (entries : List (ℕ × Filed)) (live : List ℕ) (room : ℕ) : Type 0 where
@@ -48,15 +53,50 @@ abbrev pub is_live : ℕ → Option Filed → Bool
 is_live id None = false
 is_live id (Some m) = not (is_decided id m)
 
+-- so is one that sleeps
+abbrev pub is_kept_listed : List (ℕ × Filed) → Listing → Bool
+is_kept_listed entries l = is_some l.until || is_live l.id (value_at entries l.id)
+
+-- all before a place are lower than an id, and the others are not
+pub record IsCut (ids : List ℕ) (id place : ℕ) : Type 0 where
+  pub within : place ≤ length ids
+  pub before : (other d : ℕ) → other < place → get_or ids other d < id
+  pub behind : (other d : ℕ) → place ≤ other → other < length ids → id ≤ get_or ids other d
+
 -- where an id stands among others, or would go
 abbrev pub IsPlaceOf : List ℕ → ℕ → Result ℕ ℕ → Type 0
-IsPlaceOf ids id (Ok place) = (insert_key nat_cmp ids id ≡ ids) × IsLeastFrom id (λ other. In other ids) (slice_get ids place)
-IsPlaceOf ids id (Err place) =
-    (insert_key nat_cmp ids id ≡ insert ids place id) × ((place ≤ length ids) × IsLeastFrom id (λ other. In other ids) (slice_get ids place))
+IsPlaceOf ids id (Ok place) = (insert_key nat_cmp ids id ≡ ids) × ((slice_get ids place ≡ Some id) × IsCut ids id place)
+IsPlaceOf ids id (Err place) = (insert_key nat_cmp ids id ≡ insert ids place id) × IsCut ids id place
 
--- from a number on all messages that are kept before this one are settled; all are, if there is none
-abbrev pub IsNextLive : List (ℕ × Filed) → ℕ → Option ℕ → Type 0
-IsNextLive entries from None = (id : ℕ) (m : Filed) → value_at entries id ≡ Some m → from ≤ id → IsSettled id m
-IsNextLive entries from (Some next) =
+-- from a number on all messages that are kept before this one are so; all are, if there is none
+abbrev pub IsNextBy : (ℕ → Filed → Type 0) → List (ℕ × Filed) → ℕ → Option ℕ → Type 0
+IsNextBy IsSo entries from None = (id : ℕ) (m : Filed) → value_at entries id ≡ Some m → from ≤ id → IsSo id m
+IsNextBy IsSo entries from (Some next) =
     In next (keys_of entries)
-    × ((from ≤ next) × ((id : ℕ) (m : Filed) → value_at entries id ≡ Some m → from ≤ id → id < next → IsSettled id m))
+    × ((from ≤ next) × ((id : ℕ) (m : Filed) → value_at entries id ≡ Some m → from ≤ id → id < next → IsSo id m))
+
+-- they are settled
+abbrev pub IsNextLive : List (ℕ × Filed) → ℕ → Option ℕ → Type 0
+IsNextLive entries from next = IsNextBy IsSettled entries from next
+
+-- a tick passes them by: they are settled, or if it has the accounts of which it is noted, and a clock, they are asleep by what is noted
+abbrev pub IsAsleepBy : Option Noted → ℕ → ℕ → Filed → Type 0
+IsAsleepBy None clock id m = Unit {0}
+IsAsleepBy (Some noted) clock id m = IsAsleep (record { author = noted.me; clock = clock }) (is_up noted.up.items) id m
+
+abbrev pub IsPassedBy : Listed → Option ℕ → ℕ → Filed → Type 0
+IsPassedBy kept None id m = IsSettled id m
+IsPassedBy kept (Some clock) id m = IsAsleepBy kept.noted clock id m
+
+-- ---- the rounds of those that are awake end
+
+abbrev pub dropped_of : List (ℕ × Filed) → ℕ → Option Filed → List (ℕ × Filed)
+dropped_of entries id None = entries
+dropped_of entries id (Some m) = with_value entries id (rested m)
+
+abbrev pub dropped_at : List (ℕ × Filed) → ℕ → List (ℕ × Filed)
+dropped_at entries id = dropped_of entries id (value_at entries id)
+
+abbrev pub dropped : List Listing → List (ℕ × Filed) → List (ℕ × Filed)
+dropped [] entries = entries
+dropped (l ∷ ls) entries = dropped ls (if is_some l.until then entries else dropped_at entries l.id)

@@ -7,12 +7,13 @@ mod copies;
 mod fault;
 mod grant_refusal;
 mod input;
+mod listing;
 mod message;
 mod message_room;
 mod message_shelf;
+mod noted;
 mod outputs;
 mod renewal;
-mod round_drop;
 mod ruling;
 mod turn;
 

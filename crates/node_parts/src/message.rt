@@ -1,6 +1,6 @@
 //! What a node keeps of one message.
 
-ghost use Rattle.std.specs.Prelude.{◌≡◌, ◌≤◌, ℕ, true, Ok, Some, None, IfErr, IfOk, IfSome, OnOk, option_map, if◌then◌else◌};
+ghost use Rattle.std.specs.Prelude.{◌≡◌, ◌≤◌, ◌<◌, ℕ, true, Ok, Some, None, IfErr, IfOk, IfSome, OnOk, option_map, if◌then◌else◌};
 ghost use Rattle.std.specs.Option.{option_copied};
 ghost use Rattle.mc_model.specs.node.Setup.{Setup};
 ghost use Rattle.mc_model.specs.synod.Packet.{Slot as SlotValue};
@@ -16,6 +16,7 @@ ghost use Rattle.synod_proposer.specs.Proposing.{IsOfSame as IsOfSameProposer, m
 ghost use Rattle.synod_acceptor.specs.Records.{held_at, record_at};
 ghost use Rattle.synod_acceptor.specs.Votes.{record_of, report_of, slot_in, slot_recorded, slot_reported, told_vote, vote_of};
 ghost use Rattle.delivery.specs.Kept.{outcome_kept};
+ghost use Rattle.tick_rules.specs.declared.standpoint.Standpoint.{Standpoint as StandpointValue};
 ghost use Rattle.tick_rules.specs.Attempts.{closed_as};
 ghost use Rattle.tick_rules.specs.Standpoints.{kept_of, setup_of, start_of};
 ghost use Rattle.synod_learner.specs.Counts.{known_in};
@@ -31,6 +32,7 @@ ghost use Rattle.node_parts.specs.Turning.{IsAtRest, IsOfTurn, gives_up, ruled_a
 ghost use Rattle.node_parts.specs.Messages.{IsConcluded, IsHeard, IsJudged, IsOf, IsPromised, IsRefused, IsStarted, IsStartedFor};
 ghost use Rattle.node_parts.specs.Messages.{IsTriedSo, changed_by, closed_at, granted_at, message_of, rested};
 ghost use Rattle.node_parts.specs.Living.{is_decided};
+ghost use Rattle.node_parts.specs.Sleeping.{IsAsleep, sleep_of};
 ghost use Rattle.node_parts.specs.Renewal.{renewed};
 ghost use Rattle.waiting_requests.specs.Queues.{timely};
 ghost use Rattle.waiting_requests.specs.Waiting.{held_in, known_of};
@@ -42,13 +44,13 @@ use crate::ruling::Ruling;
 use crate::turn::Turn;
 use delivery::Outcome;
 use fate_chain::{Author, Chain, Decree, Kind};
-use mc_types::{Ballot, MsgId, NodeNo, Slot};
+use mc_types::{Ballot, Moment, MsgId, NodeNo, Slot};
 use pdu_codec::SystemId;
 use std::alloc::{AllocError, Global};
 use synod_acceptor::{Acceptor, Change, Packet, Record, Report, Verdict, Vote};
 use synod_learner::{Learner, Recount};
 use synod_proposer::Proposer;
-use tick_rules::{Attempted, Closing, Due, Standpoint, follow};
+use tick_rules::{Attempted, Closing, Due, Standpoint, follow, until_due};
 use waiting_requests::Queue;
 
 /// What a node keeps of one message: the records of its acceptor, what it heard and knows, what it proposes, and what it did with its
@@ -178,6 +180,25 @@ impl Message {
         ensures { result ≡ is_decided id self.now }
     {
         self.has_fate(id) && follow(self.learner.known(id), self.acceptor.tell(id)).is_none()
+    }
+
+    /// The moment before which no rule of a tick of this author fits the message of this id, with these accounts of which a session may receive, while no
+    /// request asks of it; the greatest, if none ever does. None if one fits now, or if a round of it runs. It takes no memory.
+    pub fn until(&self, id: MsgId, me: &Author, up: &[SystemId]) -> Option<Moment>
+        ensures until { result ≡ sleep_of me.now (is_up up.now) id self.now }
+        ensures asleep { IfSome result (λ until. (s : StandpointValue) → s.author ≡ me.now → s.clock < until → IsAsleep s (is_up up.now) id self.now) }
+    {
+        let known = self.learner.known(id);
+        if self.proposer.running().is_some() || follow(known, self.acceptor.tell(id)).is_some() {
+            return None;
+        }
+        match known {
+            Some(chain) => {
+                chain.bounds();
+                until_due(*me, chain, self.attempts.at(chain.place()), up)
+            }
+            None => Some(Moment::least().later(u32::MAX)),
+        }
     }
 
     /// Ends the round that runs, if any. It takes no memory.

@@ -1,6 +1,6 @@
 //! The messages that a node keeps, and which of them are live.
 
-ghost use Rattle.std.specs.Prelude.{◌≡◌, ◌≤◌, ◌<◌, ◌+◌, ◌-◌, ◌⊎◌, [], length, map, max, filter, IfOk, OnErr, Some};
+ghost use Rattle.std.specs.Prelude.{◌≡◌, ◌≤◌, ◌<◌, ◌+◌, ◌-◌, ◌⊎◌, ◌↔◌, ℕ, [], length, map, max, filter, find, option_map, IfOk, IfSome, IsSome, None, OnErr, Some};
 ghost use Rattle.std.specs.BTreeSet.{insert_key};
 ghost use Rattle.std.specs.Box.{box_value};
 ghost use Rattle.std.specs.List.{slice_get};
@@ -13,37 +13,49 @@ ghost use Rattle.mc_model.specs.synod.Lists.{In};
 ghost use Rattle.waiting_requests.specs.Numbers.{IsLeastFrom};
 ghost use Rattle.shelf.specs.Shelved.{Serves, value_at, with_value};
 ghost use Rattle.node_parts.specs.Counting.{IsCountable, recounted_at};
-ghost use Rattle.node_parts.specs.Living.{AreRising, IsNextLive, IsPlaceOf, is_live};
+ghost use Rattle.delivery.specs.Targets.{is_up};
+ghost use Rattle.node_parts.specs.declared.listing.Listing.{Listing as ListingValue};
+ghost use Rattle.node_parts.specs.declared.message.Message.{Message as Filed};
+ghost use Rattle.node_parts.specs.Living.{AreRising, IsNextBy, IsNextLive, IsPassedBy, IsPlaceOf, dropped, dropped_at, is_kept_listed, is_live};
+ghost use Rattle.node_parts.specs.Sleeping.{IsAsleep, IsDueIn, IsNoted, dozed, ids_of, is_due, is_looked_at};
 ghost use Rattle.node_parts.specs.Renewal.{renewed};
 ghost use Rattle.node_parts.specs.Messages.{rested_entry};
 
+use crate::listing::Listing;
 use crate::message::Message;
 use crate::message_room::MessageRoom;
+use crate::noted::{Noted, is_noted};
 use crate::renewal::Renewal;
-use crate::round_drop::RoundDrop;
 use fate_chain::Author;
-use mc_types::MsgId;
+use mc_types::{Moment, MsgId};
+use pdu_codec::SystemId;
 use shelf::Shelf;
 use std::alloc::{AllocError, Global};
 use std::marker::Model;
 use std::mem;
 use synod_learner::Recount;
+use tick_rules::Standpoint;
 
 /// The messages that a node keeps, by their ids, with a list of those that are live: a message that is not on the list has a final state,
 /// the node's own votes do not go beyond that, and no round of it runs. So no rule of a tick fits it while no request waits that asks of
 /// it. A message is listed when it is put here, and is on the list until a tick finds it decided. A message is put here without taking
 /// memory, if there is room.
+///
+/// Of those that are listed it is noted until when they sleep, for a node and the accounts that were up at its last tick; one that was put since is awake.
 #[derive(Drop)]
 pub struct MessageShelf {
     shelf: Shelf<Message>,
-    // The ids of those that are live, in ascending order, with room for all that are kept.
-    live: Vec<MsgId>,
+    // Those that are live, in ascending order of their ids, with room for all that are kept.
+    live: Vec<Listing>,
+    // For whom it is noted until when they sleep; none of them sleeps if it is noted for nobody.
+    noted: Option<Noted>,
 }
 
 impl Model for MessageShelf {
     ghost use Rattle.std.specs.Prelude.{◌-◌, length};
     ghost use Rattle.std.specs.Vec.{vec_capacity};
     ghost use Rattle.node_parts.specs.Living.{AreListed, Listed};
+    ghost use Rattle.node_parts.specs.Sleeping.{AreNoted, ids_of};
 
     ghost Value = { Listed };
 
@@ -51,9 +63,11 @@ impl Model for MessageShelf {
       entries = s.shelf.entries;
       room = s.shelf.room;
       listings = vec_capacity s.live - length s.shelf.entries;
+      noted = s.noted;
     } };
 
-    ghost invariant = { λ s. AreListed s.shelf.entries s.live.items (vec_capacity s.live) };
+    ghost invariant = { λ s.
+        AreListed s.shelf.entries (ids_of s.live.items) (vec_capacity s.live) × AreNoted s.noted s.shelf.entries s.live.items };
 }
 
 impl MessageShelf {
@@ -64,6 +78,7 @@ impl MessageShelf {
         MessageShelf {
             shelf: Shelf::empty(alloc),
             live: Vec::new(alloc),
+            noted: None,
         }
     }
 
@@ -86,6 +101,30 @@ impl MessageShelf {
         ensures { IsNextLive self.now.entries from result }
     {
         least_from(&self.live, from)
+    }
+
+    /// The clock of a tick at this standpoint, if it is noted for its author and these accounts until when messages sleep. It takes no memory.
+    pub fn asleep_at(&self, at: &Standpoint, up: &[SystemId]) -> Option<Moment>
+        ensures passed { (id : ℕ) (m : Filed) → IsPassedBy self.now result id m → IsAsleep at.now (is_up up.now) id m }
+        ensures noted { IsSome result ↔ IsNoted self.now.noted at.now.author up.now }
+        ensures clock { IfSome result (λ clock. clock ≡ at.now.clock) }
+    {
+        if is_noted(&self.noted, &at.author, up) {
+            Some(at.clock)
+        } else {
+            None
+        }
+    }
+
+    /// The id of the next message that is live, from this number on, and is not noted to be asleep at a clock, if there is one; none if there is none. It
+    /// takes no memory.
+    pub fn next_due(&self, from: u64, asleep: &Option<Moment>) -> Option<MsgId>
+        ensures { IsNextBy (IsPassedBy self.now asleep.now) self.now.entries from result }
+    {
+        match asleep {
+            Some(clock) => due_from(&self.live, from, *clock),
+            None => least_from(&self.live, from),
+        }
     }
 
     /// Room for so many more messages, to be handed to `make_room`. It takes memory only if there is no room for them. It changes nothing.
@@ -137,15 +176,31 @@ impl MessageShelf {
         count_on(&mut self.shelf, id, recount);
     }
 
-    /// Ends the round of each message, and takes those that are decided off the list. It takes no memory.
+    /// Ends the round of each message, and takes those that are awake and decided off the list. No round runs of a message that is asleep or not
+    /// listed. It takes no memory.
     #[inline(never)]
     pub fn rest(&mut self)
         ensures entries { self.new.entries ≡ map rested_entry self.old.entries }
         ensures room { self.new.room ≡ self.old.room }
         ensures listings { self.new.listings ≡ self.old.listings }
     {
-        self.shelf.for_each(&RoundDrop);
+        self.shelf.ascends();
+        drop_rounds(&mut self.shelf, &self.live);
         unlist(&mut self.live, &self.shelf);
+    }
+
+    /// Notes for the author and these accounts until when each message sleeps that is due at the clock, or each, if it was not noted for them. It takes
+    /// no memory.
+    #[inline(never)]
+    pub fn doze(&mut self, at: &Standpoint, up: Vec<SystemId>)
+        ensures entries { self.new.entries ≡ self.old.entries }
+        ensures room { self.new.room ≡ self.old.room }
+        ensures listings { self.new.listings ≡ self.old.listings }
+        ensures noted { IsNoted self.new.noted at.now.author up.items }
+    {
+        let clock = self.asleep_at(at, &up);
+        doze_each(&mut self.live, &self.shelf, &at.author, &up, &clock);
+        self.noted = Some(Noted { me: at.author, up });
     }
 
     /// Keeps each message for this node in this incarnation. It takes no memory.
@@ -168,45 +223,90 @@ fn count_on(shelf: &mut Shelf<Message>, id: MsgId, recount: Recount)
     }
 }
 
-/// Where an id stands among ids that ascend, or where it would go.
-fn place_of(ids: &[MsgId], id: u64) -> Result<usize, usize>
-    requires { AreRising ids.now }
-    ensures { IsPlaceOf ids.now id result }
+/// Ends the rounds of those that are listed and awake.
+fn drop_rounds(shelf: &mut Shelf<Message>, live: &[Listing])
+    ensures entries { shelf.new.entries ≡ dropped live.now shelf.old.entries }
+    ensures room { shelf.new.room ≡ shelf.old.room }
 {
-    ids.binary_search_by_key(&id, |other| other.number())
+    for listing in live {
+        if listing.until.is_none() {
+            drop_round(shelf, listing.id);
+        }
+    }
 }
 
-/// The least of ids that ascend, from a number on; none if there is none.
-fn least_from(ids: &[MsgId], from: u64) -> Option<MsgId>
-    requires { AreRising ids.now }
-    ensures { IsLeastFrom from (λ id. In id ids.now) result }
+/// Ends the round of the message of this id, if it is kept.
+fn drop_round(shelf: &mut Shelf<Message>, id: MsgId)
+    ensures entries { shelf.new.entries ≡ dropped_at shelf.old.entries id }
+    ensures room { shelf.new.room ≡ shelf.old.room }
 {
-    match place_of(ids, from) {
-        Ok(place) => at(ids, place),
-        Err(place) => at(ids, place),
+    if let Some(message) = shelf.get_mut(id.number()) {
+        message.drop_round();
+    }
+}
+
+/// Where an id stands among those that are listed, which ascend, or where it would go.
+fn place_of(live: &[Listing], id: u64) -> Result<usize, usize>
+    requires { AreRising (ids_of live.now) }
+    ensures { IsPlaceOf (ids_of live.now) id result }
+{
+    live.binary_search_by_key(&id, |listing| listing.id.number())
+}
+
+/// The least of the ids that are listed, which ascend, from a number on; none if there is none.
+fn least_from(live: &[Listing], from: u64) -> Option<MsgId>
+    requires { AreRising (ids_of live.now) }
+    ensures { IsLeastFrom from (λ id. In id (ids_of live.now)) result }
+{
+    match place_of(live, from) {
+        Ok(place) => at(live, place),
+        Err(place) => at(live, place),
     }
 }
 
 /// The id at a place; none after the last.
-fn at(ids: &[MsgId], place: usize) -> Option<MsgId>
-    ensures { result ≡ slice_get ids.now place }
+fn at(live: &[Listing], place: usize) -> Option<MsgId>
+    ensures { result ≡ slice_get (ids_of live.now) place }
 {
-    let id = ids.get(place)?;
-    Some(*id)
+    let listing = live.get(place)?;
+    Some(listing.id)
 }
 
-/// Room for so many more ids than there are messages, if the list has none for them; it is twice as many as there are, at least.
+/// The least of the ids of those that are due at a clock, from a number on; none if there is none.
+fn due_from(live: &[Listing], from: u64, clock: Moment) -> Option<MsgId>
+    requires { AreRising (ids_of live.now) }
+    ensures { IsLeastFrom from (IsDueIn clock live.now) result }
+{
+    match place_of(live, from) {
+        Ok(place) => first_due(&live[place..], clock),
+        Err(place) => first_due(&live[place..], clock),
+    }
+}
+
+/// The id of the first one that is due at a clock.
+fn first_due(live: &[Listing], clock: Moment) -> Option<MsgId>
+    ensures { result ≡ option_map (λ l. l.id) (find (is_due clock) live.now) }
+{
+    for listing in live {
+        if listing.is_due(clock) {
+            return Some(listing.id);
+        }
+    }
+    None
+}
+
+/// Room for so many more messages to be listed than there are, if the list has none for them; it is twice as many as there are, at least.
 fn wider(
     alloc: Global,
-    ids: &Vec<MsgId>,
+    live: &Vec<Listing>,
     messages: usize,
     more: usize,
-) -> Result<Vec<MsgId>, AllocError>
-    requires { messages ≤ vec_capacity ids.now }
-    ensures serves { IfOk result (λ room. (more ≤ vec_capacity ids.now - messages) ⊎ (messages + more ≤ vec_capacity room)) }
+) -> Result<Vec<Listing>, AllocError>
+    requires { messages ≤ vec_capacity live.now }
+    ensures serves { IfOk result (λ room. (more ≤ vec_capacity live.now - messages) ⊎ (messages + more ≤ vec_capacity room)) }
     ensures memory { OnErr result (0 < more) }
 {
-    if more <= ids.capacity() - messages {
+    if more <= live.capacity() - messages {
         return Ok(Vec::new(alloc));
     }
     let Some(least) = messages.checked_add(more) else {
@@ -215,41 +315,46 @@ fn wider(
     Vec::with_capacity(alloc, least.max(messages.saturating_mul(2)))
 }
 
-/// Moves the ids into this room, if it is larger than what they have.
-fn widen(ids: &mut Vec<MsgId>, mut room: Vec<MsgId>)
-    ensures ids { ids.new.items ≡ ids.old.items }
-    ensures capacity { max (vec_capacity ids.old) (vec_capacity room) ≤ vec_capacity ids.new }
+/// Moves the list into this room, if it is larger than what it has.
+fn widen(live: &mut Vec<Listing>, mut room: Vec<Listing>)
+    ensures live { live.new.items ≡ live.old.items }
+    ensures capacity { max (vec_capacity live.old) (vec_capacity room) ≤ vec_capacity live.new }
 {
-    if room.capacity() <= ids.capacity() {
+    if room.capacity() <= live.capacity() {
         return;
     }
     room.clear();
-    if room.append(ids).is_err() {
+    if room.append(live).is_err() {
         unreachable!();
     }
-    mem::swap(ids, &mut room);
+    mem::swap(live, &mut room);
 }
 
-/// Puts an id among ids that ascend, if it is not there; there is room for it.
-fn enlist(ids: &mut Vec<MsgId>, id: MsgId)
-    requires rising { AreRising ids.old.items }
-    requires room { length (insert_key nat_cmp ids.old.items id) ≤ vec_capacity ids.old }
-    ensures ids { ids.new.items ≡ insert_key nat_cmp ids.old.items id }
-    ensures capacity { vec_capacity ids.new ≡ vec_capacity ids.old }
+/// Lists a message of an id, to be looked at by the next tick; there is room for it.
+fn enlist(live: &mut Vec<Listing>, id: MsgId)
+    requires rising { AreRising (ids_of live.old.items) }
+    requires room { length (insert_key nat_cmp (ids_of live.old.items) id) ≤ vec_capacity live.old }
+    ensures ids { ids_of live.new.items ≡ insert_key nat_cmp (ids_of live.old.items) id }
+    ensures woken { (l : ListingValue) → In l live.new.items → (l.until ≡ None) ⊎ (In l live.old.items × (l.id ≡ id → ⊥)) }
+    ensures capacity { vec_capacity live.new ≡ vec_capacity live.old }
 {
-    if let Err(place) = place_of(ids, id.number()) {
-        if ids.insert(place, id).is_err() {
-            unreachable!();
+    let listing = Listing { id, until: None };
+    match place_of(live, id.number()) {
+        Ok(place) => live[place] = listing,
+        Err(place) => {
+            if live.insert(place, listing).is_err() {
+                unreachable!();
+            }
         }
     }
 }
 
-/// Takes the ids of messages that are decided off the list.
-fn unlist(ids: &mut Vec<MsgId>, shelf: &Shelf<Message>)
-    ensures ids { ids.new.items ≡ filter (λ id. is_live id (value_at shelf.now.entries id)) ids.old.items }
-    ensures capacity { vec_capacity ids.new ≡ vec_capacity ids.old }
+/// Takes those that are awake and decided off the list.
+fn unlist(live: &mut Vec<Listing>, shelf: &Shelf<Message>)
+    ensures live { live.new.items ≡ filter (is_kept_listed shelf.now.entries) live.old.items }
+    ensures capacity { vec_capacity live.new ≡ vec_capacity live.old }
 {
-    ids.retain(|id| is_live(shelf, *id));
+    live.retain(|listing| listing.until.is_some() || is_live(shelf, listing.id));
 }
 
 /// Whether the message of an id is not decided.
@@ -259,5 +364,49 @@ fn is_live(shelf: &Shelf<Message>, id: MsgId) -> bool
     match shelf.get(id.number()) {
         Some(message) => !message.is_decided(id),
         None => false,
+    }
+}
+
+/// Notes until when each message sleeps that is due at a clock, or each, if there is none.
+fn doze_each(
+    live: &mut Vec<Listing>,
+    shelf: &Shelf<Message>,
+    me: &Author,
+    up: &[SystemId],
+    clock: &Option<Moment>,
+)
+    ensures live { live.new.items ≡ map (dozed shelf.now.entries me.now (is_up up.now) clock.now) live.old.items }
+    ensures capacity { vec_capacity live.new ≡ vec_capacity live.old }
+{
+    for listing in live.iter_mut() {
+        doze(listing, shelf, me, up, clock);
+    }
+}
+
+/// Notes until when a message sleeps, if it is due at a clock, or if there is none.
+fn doze(
+    listing: &mut Listing,
+    shelf: &Shelf<Message>,
+    me: &Author,
+    up: &[SystemId],
+    clock: &Option<Moment>,
+)
+    ensures { listing.new ≡ dozed shelf.now.entries me.now (is_up up.now) clock.now listing.old }
+{
+    if is_looked_at(clock, listing) {
+        listing.until = match shelf.get(listing.id.number()) {
+            Some(message) => message.until(listing.id, me, up),
+            None => None,
+        };
+    }
+}
+
+/// Whether a message is due at a clock, or if there is none.
+fn is_looked_at(clock: &Option<Moment>, listing: &Listing) -> bool
+    ensures { result ≡ is_looked_at clock.now listing.now }
+{
+    match clock {
+        Some(clock) => listing.is_due(*clock),
+        None => true,
     }
 }

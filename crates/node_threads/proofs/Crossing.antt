@@ -1,13 +1,11 @@
 -- The nodes of a cluster may go to another thread, and threads may share the cluster, if the nodes' stores may go.
 use denote.RattleType.{RattleType}
-use denote.Param.{number}
 use denote.Param.Send.{IsSend, IsSync, sendable, view_send, view_sync}
 use denote.Param.SendFields.{as_row_send, as_row_sync, declared_send, declared_sync}
 use Rattle.std.proofs.Crossing.{crosses, Vec-send, Vec-sync}
 use Rattle.std.specs.contracts.option.Option as Option
 use Rattle.std.specs.declared.sync.ledger.Ledger as Ledger
 use Rattle.stable_store.specs.declared.store.StableStore as Store
-use Rattle.pdu_fields.proofs.text.Text.TheSendSync as text
 use Rattle.synod_acceptor.proofs.packet.Packet.TheSendSync as packet
 use Rattle.node_kept.proofs.stopped.Stopped.TheSendSync as stopped
 use Rattle.node_core.specs.contracts.node.Node as Node
@@ -41,10 +39,7 @@ module _ (S : RattleType) (s : Store.Ghosts S.Denot) where
           search sendable,
           (
             option_send _ packet.the_send,
-            (
-              option_send _ stopped.the_send,
-              (option_send _ (Vec-send _ (text.the_send (number 16))), tt),
-            ),
+            (option_send _ stopped.the_send, tt),
           ),
         ),
       ),
@@ -69,10 +64,7 @@ module _ (S : RattleType) (s : Store.Ghosts S.Denot) where
           search sendable,
           (
             option_sync _ packet.the_sync,
-            (
-              option_sync _ stopped.the_sync,
-              (option_sync _ (Vec-sync _ (text.the_sync (number 16))), tt),
-            ),
+            (option_sync _ stopped.the_sync, tt),
           ),
         ),
       ),

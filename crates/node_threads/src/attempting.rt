@@ -4,6 +4,7 @@ ghost use Rattle.std.specs.Prelude.{◌≡◌, ◌⊎◌, IfErr, IfOk, IfSome, S
 ghost use Rattle.mc_model.specs.message.Chain.{taken_in};
 ghost use Rattle.mc_model.specs.message.Submission.{Submission};
 ghost use Rattle.mc_model.specs.synod.Packet.{slot_of};
+ghost use Rattle.fate_chain.specs.Content.{is_long};
 ghost use Rattle.journal_parts.specs.declared.refusal.Refusal.TheVariants.{Memory, NoSuchNode};
 
 use crate::cluster::Cluster;
@@ -15,17 +16,19 @@ use stable_store::StableStore;
 use std::alloc::AllocError;
 use std::sync::Wait;
 
-/// An attempt that may be granted: its slot, and the account that the message goes to.
+/// An attempt that may be granted: its slot, the account that the message goes to, and whether its text is too long for a short_message.
 #[derive(Drop)]
 pub struct Attempt {
     pub slot: Slot,
     pub account: SystemId,
+    pub long: bool,
 }
 
 /// The attempt in which a chain ends. An `Err` is want of memory.
 fn attempt_in(chain: &Chain) -> Result<Attempt, AllocError>
     ensures slot { IfOk result (λ attempt. attempt.slot ≡ slot_of chain.now.id chain.now.decrees) }
     ensures account { IfOk result (λ attempt. option_map (λ (taken : Submission). taken.target) (taken_in chain.now.decrees) ≡ Some attempt.account) }
+    ensures long { IfOk result (λ attempt. option_map (λ (taken : Submission). is_long taken.text) (taken_in chain.now.decrees) ≡ Some attempt.long) }
 {
     Ok(Attempt {
         slot: Slot {
@@ -33,6 +36,7 @@ fn attempt_in(chain: &Chain) -> Result<Attempt, AllocError>
             place: chain.place(),
         },
         account: chain.submission().target.copy()?,
+        long: chain.submission().content.is_long(),
     })
 }
 

@@ -35,11 +35,3 @@ module _ {G : Type 0} (answers : G → List ℕ → List ℕ → Option Pdu → 
         behind = tried.2 ∙ ap (λ slips. slips ++ granted ∷ answered ∷ []) worked.behind ∙ append_assoc old worked.made (granted ∷ answered ∷ []);
         attempts = attempts_more 1 was worked.made sequence then granted answered is worked.attempts tried.3;
       }
-
-  -- or none was
-  pub worked_no_more : (old : List Slipped) (was : G) (between : List Slipped) (then : G) (sequence : ℕ) (new : List Slipped) (is : G) →
-      HasWorkedTo answers node old was between then sequence → Tries answers node sequence between then new is false →
-      HasWorkedTo answers node old was new is sequence
-  worked_no_more old was between then sequence new is worked tried =
-      subst (λ (g : G). HasWorkedTo answers node old was new g sequence) (sym tried.1)
-      (subst (λ (slips : List Slipped). HasWorkedTo answers node old was slips then sequence) (sym tried.0) worked)

@@ -1,4 +1,5 @@
 pub mod Attempts
 pub mod Standpoints
 pub mod Dues
+pub mod Waking
 pub mod Seen

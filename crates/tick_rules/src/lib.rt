@@ -6,9 +6,11 @@ mod due;
 mod following;
 mod laws;
 mod standpoint;
+mod waking;
 
 pub use attempted::{Attempted, Closing};
 pub use due::Due;
 pub use following::follow;
 pub use laws::what_is_due_is_the_first_rule;
 pub use standpoint::Standpoint;
+pub use waking::until_due;

@@ -149,7 +149,7 @@ fn is_idle(newest: &Decree) -> bool
 }
 
 /// Whether the account is one of these.
-fn is_up(accounts: &[SystemId], target: &SystemId) -> bool
+pub(crate) fn is_up(accounts: &[SystemId], target: &SystemId) -> bool
     ensures { result ≡ is_up accounts.now target.now }
 {
     accounts

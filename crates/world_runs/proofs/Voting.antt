@@ -83,12 +83,6 @@ module _ (cluster : Cluster) where
     nodes_here : here.nodes ≡ cluster.nodes
     nodes_here = nodes_same (world_at cluster before) (by_node step.node cut.older) ∙ nodes_same first (acts_in before)
 
-    holds_here : Holds here
-    holds_here =
-        subst Holds (reached_on first (by_node step.node cut.older) (acts_in before))
-        (holds cluster.nodes cluster.serials (by_node step.node cut.older ++ acts_in before)
-        (run_on first (by_node step.node cut.older) (acts_in before) runs_here.1 (steps_run cluster first before are)))
-
     sent_before : (packet : Packet) → In packet (here.actors step.node).received → In packet (world_at cluster before).packets
     sent_before packet received =
         received_by (world_at cluster before) step.node cut.older packet (In packet (world_at cluster before).packets)

@@ -1,11 +1,5 @@
 use Rattle.std.proofs.Common.{rules, ◌≡◌, refl, sym, ap, subst, ◌∙◌, Bool, true, false}
 use Rattle.std.proofs.lemmas.Bool.{true≢false}
-use Rattle.mc_model.specs.node.Setup.{Setup}
-use Rattle.node_model.specs.Kept.{Kept}
-use Rattle.node_parts.specs.declared.input.Input.{Input}
-use Rattle.node_kept.specs.declared.kept.Kept.{Kept as Holding}
-use Rattle.node_kept.specs.Idling.{IsQuiet, IsQuietFor}
-use Rattle.node_kept.specs.Keeping.{kept_of}
 use Rattle.node_core.specs.Nodes.{HasStopped, HasTaken, IsStored, IsUnmoved, Standing, seen}
 use Rattle.node_core.specs.Pendings.{Awaited}
 use Rattle.node_core.proofs.Committing.{taken}
@@ -33,9 +27,9 @@ returns-in-Ok-clause-ok g c =
     let works : c.self.inside.broken ≡ false = search rules in
     let kept : c.pending.inside.was.value ≡ c.self.inside.kept =
     ap (λ (p : Awaited). p.was) c.pending.view_is ∙ c.requires ∙ sym (ap (λ (n : Standing g.row.S.Denot). n.kept) c.self.view_is) in
-    subst (λ (old : Standing g.row.S.Denot). HasTaken old c.args.pending.input new c.pending.inside.foreseen.step.outputs) c.self.view_is
-    (taken before new c.pending.inside.was.value c.args.pending.input c.pending.inside.given.value c.pending.inside.foreseen.step kept
-    (ap (λ (p : Awaited). p.input) c.pending.view_is) c.pending.invariant.prepared.is c.install.ensures works refl refl)
+    subst (λ (old : Standing g.row.S.Denot). HasTaken old c.args.pending.input new c.pending.inside.step.outputs) c.self.view_is
+    (taken before new c.pending.inside.was.value c.args.pending.input c.pending.inside.given.value c.pending.inside.step kept
+    (ap (λ (p : Awaited). p.input) c.pending.view_is) c.pending.invariant.is c.install.ensures works refl refl)
 
 pub invariant_of-self-in-Err-Device : goal.invariant_of-self-in-Err-Device
 invariant_of-self-in-Err-Device g c =
@@ -44,17 +38,15 @@ invariant_of-self-in-Err-Device g c =
     let kept : c.pending.inside.was.value ≡ c.self.inside.kept =
     ap (λ (p : Awaited). p.was) c.pending.view_is ∙ c.requires ∙ sym (ap (λ (n : Standing g.row.S.Denot). n.kept) c.self.view_is) in
     let is = cut c.self.inside.kept c.pending.inside.was.value c.args.pending.input c.pending.inside.given.value
-    c.pending.inside.foreseen.step c.pending.inside.packet
-    (stored c.self.inside.store) (stored c.save.new.store) kept (ap (λ (p : Awaited). p.input) c.pending.view_is) c.pending.invariant.prepared
-    (c.self.invariant.0.saved works) (g.met.S.StableStore.settled c.self.inside.store) c.in-Err-Device.ensures.change c.save.ensures.left in (
-      record {
-        saved = λ works. absurd (true≢false works);
-        own = c.self.invariant.0.own;
-        finished = λ works. absurd (true≢false works);
-        halted = is.halted;
-      },
-      c.self.invariant.1,
-    )
+    c.pending.inside.step c.pending.inside.packet
+    (stored c.self.inside.store) (stored c.save.new.store) kept (ap (λ (p : Awaited). p.input) c.pending.view_is) c.pending.invariant
+    (c.self.invariant.saved works) (g.met.S.StableStore.settled c.self.inside.store) c.in-Err-Device.ensures.change c.save.ensures.left in
+    record {
+      saved = λ works. absurd (true≢false works);
+      own = c.self.invariant.own;
+      finished = λ works. absurd (true≢false works);
+      halted = is.halted;
+    }
 
 pub returns-in-Err-Device-clause-device : goal.returns-in-Err-Device-clause-device
 returns-in-Err-Device-clause-device g c = λ device.
@@ -70,9 +62,9 @@ returns-in-Err-Device-clause-device g c = λ device.
     let kept : c.pending.inside.was.value ≡ c.self.inside.kept =
     ap (λ (p : Awaited). p.was) c.pending.view_is ∙ c.requires ∙ sym (ap (λ (n : Standing g.row.S.Denot). n.kept) c.self.view_is) in
     let is = cut c.self.inside.kept c.pending.inside.was.value c.args.pending.input c.pending.inside.given.value
-    c.pending.inside.foreseen.step c.pending.inside.packet
-    (stored c.self.inside.store) (stored c.save.new.store) kept (ap (λ (p : Awaited). p.input) c.pending.view_is) c.pending.invariant.prepared
-    (c.self.invariant.0.saved works) (g.met.S.StableStore.settled c.self.inside.store) c.in-Err-Device.ensures.change c.save.ensures.left in
+    c.pending.inside.step c.pending.inside.packet
+    (stored c.self.inside.store) (stored c.save.new.store) kept (ap (λ (p : Awaited). p.input) c.pending.view_is) c.pending.invariant
+    (c.self.invariant.saved works) (g.met.S.StableStore.settled c.self.inside.store) c.in-Err-Device.ensures.change c.save.ensures.left in
     subst (λ (old : Standing g.row.S.Denot). HasStopped (seen stored old) c.args.pending.input (seen stored new)) c.self.view_is
     (record {
       kept = refl;
@@ -106,8 +98,8 @@ returns-clause-device g c = search rules
 
 pub returns-clause-wants : goal.returns-clause-wants
 returns-clause-wants g c = λ wanted.
-    saved_for c.pending.inside.was.value c.args.pending.input c.pending.inside.given.value c.pending.inside.foreseen.step c.pending.inside.packet
-    (ap (λ (p : Awaited). p.input) c.pending.view_is) c.pending.invariant.prepared c.in-Err.ensures.change
+    saved_for c.pending.inside.was.value c.args.pending.input c.pending.inside.given.value c.pending.inside.step c.pending.inside.packet
+    (ap (λ (p : Awaited). p.input) c.pending.view_is) c.pending.invariant c.in-Err.ensures.change
 
 pub returns-clause-stays : goal.returns-clause-stays
 returns-clause-stays g c = λ broken. absurd (search rules)
@@ -115,36 +107,13 @@ returns-clause-stays g c = λ broken. absurd (search rules)
 pub invariant_of-self : goal.invariant_of-self
 invariant_of-self g c =
     let stored = g.S.StableStore.stored in
-    let new : Standing g.row.S.Denot = record {
-      kept = c.install.new.self;
-      broken = c.self.inside.broken;
-      store = c.save.new.store;
-      unfinished = c.self.inside.unfinished;
-      stopped = c.self.inside.stopped;
-    } in
-    let before : Standing g.row.S.Denot = record {
-      kept = c.self.inside.kept;
-      broken = c.self.inside.broken;
-      store = c.self.inside.store;
-      unfinished = c.self.inside.unfinished;
-      stopped = c.self.inside.stopped;
-    } in
     let works : c.self.inside.broken ≡ false = search rules in
     let kept : c.pending.inside.was.value ≡ c.self.inside.kept =
     ap (λ (p : Awaited). p.was) c.pending.view_is ∙ c.requires ∙ sym (ap (λ (n : Standing g.row.S.Denot). n.kept) c.self.view_is) in
     let input : c.pending.inside.given.value ≡ c.args.pending.input = ap (λ (p : Awaited). p.input) c.pending.view_is in
     let once : IsStored false (stored c.save.new.store) c.self.inside.unfinished c.install.new.self =
     stored_once c.self.inside.kept c.pending.inside.was.value c.install.new.self c.args.pending.input c.pending.inside.given.value
-    c.pending.inside.foreseen.step c.pending.inside.packet c.self.inside.unfinished (stored c.self.inside.store) (stored c.save.new.store) kept input
-    c.pending.invariant.prepared c.install.ensures c.in-Ok.ensures.ok (g.met.S.StableStore.settled c.save.new.store)
-    (subst (λ (b : Bool). IsStored b (stored c.self.inside.store) c.self.inside.unfinished c.self.inside.kept) works c.self.invariant.0) in
-    let is : HasTaken before c.args.pending.input new c.pending.inside.foreseen.step.outputs =
-    taken before new c.pending.inside.was.value c.args.pending.input c.pending.inside.given.value c.pending.inside.foreseen.step kept input
-    c.pending.invariant.prepared.is c.install.ensures works refl refl in
-    let quiet : IsQuietFor c.self.inside.kept c.args.pending.input c.pending.inside.foreseen.idle =
-    subst (λ (i : Input). IsQuietFor c.self.inside.kept i c.pending.inside.foreseen.idle) input
-    (subst (λ (k : Holding). IsQuietFor k c.pending.inside.given.value c.pending.inside.foreseen.idle) kept c.pending.invariant.quiet) in (
-      subst (λ (b : Bool). IsStored b (stored c.save.new.store) c.self.inside.unfinished c.install.new.self) (sym works) once,
-      subst (λ (s : Setup). IsQuiet s (kept_of c.install.new.self) c.pending.inside.foreseen.idle) (sym is.setup)
-          (subst (λ (m : Kept). IsQuiet c.self.inside.kept.setup m c.pending.inside.foreseen.idle) (sym is.kept) quiet),
-    )
+    c.pending.inside.step c.pending.inside.packet c.self.inside.unfinished (stored c.self.inside.store) (stored c.save.new.store) kept input
+    c.pending.invariant c.install.ensures c.in-Ok.ensures.ok (g.met.S.StableStore.settled c.save.new.store)
+    (subst (λ (b : Bool). IsStored b (stored c.self.inside.store) c.self.inside.unfinished c.self.inside.kept) works c.self.invariant) in
+    subst (λ (b : Bool). IsStored b (stored c.save.new.store) c.self.inside.unfinished c.install.new.self) (sym works) once

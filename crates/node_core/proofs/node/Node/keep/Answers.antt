@@ -16,12 +16,10 @@ invariant_of-self g c =
     let is : IsStepFor c.self.inside.kept (Came c.args.packet.now) c.args.step =
     subst (λ (k : Holding). IsStepFor k (Came c.args.packet.now) c.args.step) (sym kept) c.requires.step in
     let old : IsStored false now c.self.inside.unfinished c.self.inside.kept =
-    subst (λ (b : Bool). IsStored b now c.self.inside.unfinished c.self.inside.kept) works c.self.invariant.0 in (
-      subst (λ (b : Bool). IsStored b now c.self.inside.unfinished c.install.new.self) (sym works)
-          (stored_quietly c.self.inside.kept c.install.new.self c.args.packet.now c.args.step c.self.inside.unfinished now is
-          c.requires.unsaved c.install.ensures (g.met.S.StableStore.settled store) old),
-      tt,
-    )
+    subst (λ (b : Bool). IsStored b now c.self.inside.unfinished c.self.inside.kept) works c.self.invariant in
+    subst (λ (b : Bool). IsStored b now c.self.inside.unfinished c.install.new.self) (sym works)
+    (stored_quietly c.self.inside.kept c.install.new.self c.args.packet.now c.args.step c.self.inside.unfinished now is
+    c.requires.unsaved c.install.ensures (g.met.S.StableStore.settled store) old)
 
 pub returns-clause-taken : goal.returns-clause-taken
 returns-clause-taken g c =

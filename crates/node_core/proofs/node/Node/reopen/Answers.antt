@@ -44,7 +44,7 @@ returns-in-Ok-clause-told g c = λ none.
     let found : IsFound (records_in kept) c.self.inside.unfinished c.told.result =
     subst (λ (o : Option Sent). IsFound (records_in kept) o c.told.result) c.take.ensures.value c.told.ensures in
     let is = tells c.self.inside.kept (records_in kept) c.self.inside.unfinished c.told.result
-    (c.self.invariant.0.halted (records_in kept) (c.in-Ok.ensures.found.found none)) found in
+    (c.self.invariant.halted (records_in kept) (c.in-Ok.ensures.found.found none)) found in
     subst (λ (old : Standing g.row.S.Denot). IsTold old.kept (records_in kept) old.unfinished c.told.result) c.self.view_is is
 
 still_stored : (old new : Bool) (fault : StoreFault) (before after : Stored) (unfinished : Option Sent) (k : Kept) → (new ≡ false → old ≡ false) →
@@ -68,9 +68,7 @@ invariant_of-self-in-Err g c =
     λ (sound : c.if-self.self ≡ false). elim c.if-self.branch [
       | then-self w ↦ absurd (true≢false (sym w.if-self.true ∙ sym w.self-is ∙ sound))
       | else-self w ↦ sym w.breaks-self-inside.ensures ∙ sym w.self-is ∙ sound
-    ] in (
-      still_stored c.self.inside.broken c.if-self.self c.in-Err.fault (g.S.StableStore.stored c.self.inside.store)
-          (g.S.StableStore.stored c.begin.new.store) c.self.inside.unfinished c.self.inside.kept works kind c.in-Err.ensures.stays c.in-Err.ensures.left
-          c.self.invariant.0,
-      c.self.invariant.1,
-    )
+    ] in
+    still_stored c.self.inside.broken c.if-self.self c.in-Err.fault (g.S.StableStore.stored c.self.inside.store)
+    (g.S.StableStore.stored c.begin.new.store) c.self.inside.unfinished c.self.inside.kept works kind c.in-Err.ensures.stays c.in-Err.ensures.left
+    c.self.invariant

@@ -7,5 +7,5 @@ use Rattle.node_core.proofs.pending.Pending.outputs.Goals as goal
 
 pub returns : goal.returns
 returns c =
-    c.self.invariant.prepared.is.is.outputs
+    c.self.invariant.is.is.outputs
     ∙ ap (λ (p : Awaited). (stepped p.was.setup (kept_of p.was) (input_of p.was.setup (kept_of p.was) p.input)).outputs) c.self.view_is

@@ -1,9 +1,9 @@
-use Rattle.std.proofs.Common.{◌≡◌, ℕ, false, [], length, map, max, refl, sym, ap, subst, ◌∙◌, rules}
+use Rattle.std.proofs.Common.{◌≡◌, ℕ, false, List, [], length, map, max, refl, sym, ap, subst, ◌∙◌, rules}
 use Rattle.std.proofs.lemmas.Bool.{true≢false}
 use Rattle.std.specs.List.{list_any}
 use Rattle.std.specs.Vec.{vec_capacity}
 use Rattle.node_model.specs.Requests.{is_untold}
-use Rattle.node_model.specs.Ticks.{is_late}
+use Rattle.node_model.specs.Ticks.{ids_of, is_late, ticked}
 use Rattle.waiting_requests.specs.Queues.{timely}
 use Rattle.waiting_requests.specs.Waiting.{held_in}
 use Rattle.waiting_requests.specs.Replying.{reply_given}
@@ -11,8 +11,9 @@ use Rattle.delivery.specs.Targets.{is_up}
 use Rattle.synod_acceptor.specs.Packets.{packet_of}
 use Rattle.node_kept.specs.Idling.{NoneFits}
 use Rattle.node_kept.specs.Keeping.{kept_of}
+use Rattle.node_kept.specs.Ticking.{IsTurned}
 use Rattle.node_kept.proofs.Idling.{none_passes, timely_in}
-use Rattle.node_kept.proofs.TickSteps.{room_serves, still_at, ticked_at}
+use Rattle.node_kept.proofs.TickSteps.{room_serves, ticked_at}
 use Rattle.node_kept.proofs.kept.Kept.on_tick.Goals as goal
 
 pub returns-clause-step : goal.returns-clause-step
@@ -24,7 +25,7 @@ returns-clause-step c =
     let same = c.unchanged-next.ensures in
     let packets = ap (λ v. map packet_of v.items) c.telling.ensures.packets ∙ c.in_ok-packets.ensures.packets in
     let replies = ap (λ v. map reply_given v.items) c.telling.ensures.replies ∙ c.in_ok-replies.ensures.replies in
-    ticked_at k c.args.moment c.max-clock.result (is_up c.args.up.now) turns _ clock
+    ticked_at k c.args.moment c.max-clock.result (is_up c.args.up.items) turns _ clock
     (record {
       clock_is = refl;
       serial = same.serial;
@@ -46,7 +47,8 @@ returns-clause-step c =
       granted = c.telling.ensures.granted;
       change = refl;
     })
-    c.in_ok-turns.ensures.turned
+    (subst (λ (ups : List (List ℕ)). IsTurned k c.max-clock.result (is_up ups) (ids_of (ticked (kept_of k) c.max-clock.result)) turns)
+    c.deref.ensures.value c.in_ok-turns.ensures.turned)
 
 pub returns-in_err-replies-clause-idle : goal.returns-in_err-replies-clause-idle
 returns-in_err-replies-clause-idle c idle =
@@ -62,17 +64,10 @@ returns-in_err-packets-clause-idle c idle =
     let none : list_any (is_untold k.setup.nodes) (timely c.max-clock.result (held_in k.queue)) ≡ false =
     none_passes (is_untold k.setup.nodes) (timely c.max-clock.result (held_in k.queue))
     (λ h among. idle.told h (timely_in c.max-clock.result (held_in k.queue) h among)) in
-    let fits : NoneFits k.setup (kept_of k) c.max-clock.result (is_up c.args.up.now) = subst
-    (λ (n : ℕ). NoneFits k.setup (kept_of k) n (is_up c.args.up.now)) (sym clock) idle.unruled in
-    let empty : c.in_ok-turns.turns.packets.items ≡ [] = (rw c.in_ok-turns.was at (c.turns.ensures.idle fits)).1 in
+    let fits : NoneFits k.setup (kept_of k) c.max-clock.result (is_up c.args.up.items) = subst
+    (λ (n : ℕ). NoneFits k.setup (kept_of k) n (is_up c.args.up.items)) (sym clock) idle.unruled in
+    let here : NoneFits k.setup (kept_of k) c.max-clock.result (is_up c.deref.result.now) =
+    subst (λ (ups : List (List ℕ)). NoneFits k.setup (kept_of k) c.max-clock.result (is_up ups)) (sym c.deref.ensures.value) fits in
+    let empty : c.in_ok-turns.turns.packets.items ≡ [] = (rw c.in_ok-turns.was at (c.turns.ensures.idle here)).1 in
     let ok = c.with_questions.ensures.idle none empty in
     absurd (true≢false (sym (rw c.in_err-packets.was at ok)))
-
-pub returns-clause-rests : goal.returns-clause-rests
-returns-clause-rests c still =
-    let k = c.args.self.now in
-    let clock : c.max-clock.result ≡ max k.clock c.args.moment = search rules in
-    let packets = ap (λ v. map packet_of v.items) c.telling.ensures.packets ∙ c.in_ok-packets.ensures.packets in
-    let replies = ap (λ v. map reply_given v.items) c.telling.ensures.replies ∙ c.in_ok-replies.ensures.replies in
-    still_at k c.args.moment c.max-clock.result (is_up c.args.up.now) c.in_ok-turns.turns clock c.in_ok-turns.ensures.turned still.messages
-    (sym packets ∙ ap (map packet_of) still.packets) (sym replies ∙ ap (map reply_given) still.replies)

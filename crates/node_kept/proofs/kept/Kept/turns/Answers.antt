@@ -3,13 +3,16 @@ use Rattle.std.specs.Prelude.{filter, nat_le}
 use Rattle.mc_model.specs.synod.Lists.{In}
 use Rattle.node_model.specs.Ticks.{ids_of, ticked}
 use Rattle.delivery.specs.Targets.{is_up}
+use Rattle.tick_rules.specs.declared.standpoint.Standpoint.{Standpoint}
+use Rattle.node_parts.specs.Living.{IsPassedBy}
+use Rattle.node_parts.specs.Sleeping.{IsAsleep}
 use Rattle.node_kept.specs.Keeping.{kept_of}
 use Rattle.node_kept.specs.Walking.{ids_left, next_of}
 use Rattle.node_kept.specs.declared.walk.Walk.{Walk}
 use Rattle.node_kept.specs.declared.turn_list.TurnList.{TurnList}
 use Rattle.node_kept.proofs.Passing.{all_turned, next_turning}
 use Rattle.node_kept.proofs.TickTurns.{IsTurning, more_then, none_turned, same_then, turning_begins, turning_goes_on}
-use Rattle.node_kept.proofs.Walking.{all_passed, fewer_left, from_nothing, in_left, next_is, rise_all, walk_begins}
+use Rattle.node_kept.proofs.Walking.{all_passed, fewer_left, from_nothing, in_left, next_by, next_is, rise_all, walk_begins}
 use Rattle.node_kept.proofs.kept.Kept.turns.Goals.{in-Some-2+in_ok-add, in_default-2}
 use Rattle.node_kept.proofs.kept.Kept.turns.Goals as goal
 
@@ -17,24 +20,27 @@ pub loop-id-init : goal.loop-id-init
 loop-id-init c =
     let k = c.args.self.now in
     let clock = c.args.clock in
-    let walk : Walk = record { from = 0; live = c.next_live.result; asked = c.next_id.result } in
+    let up = is_up c.args.up.now in
+    let at : Standpoint = record { author = c.author.result; clock = clock } in
+    let walk : Walk = record { from = 0; live = c.next_due.result; asked = c.next_id.result } in
     record {
-      walks = walk_begins k clock walk refl c.next_live.ensures c.next_id.ensures;
+      walks = walk_begins k at up walk refl (next_by (IsPassedBy k.messages c.asleep_at-asleep.result) (IsAsleep at up) k.messages.entries 0 c.next_due.result c.asleep_at-asleep.ensures.passed c.next_due.ensures)
+          c.next_id.ensures;
       turns = turning_begins k clock (is_up c.args.up.now) (ids_left k clock walk) c.empty-turns.result (from_nothing (ids_of (ticked (kept_of k) clock)))
           (none_turned k clock (is_up c.args.up.now) c.empty-turns.result c.requires c.empty-turns.ensures.messages c.empty-turns.ensures.packets);
       none = λ fits. (c.empty-turns.ensures.messages, c.empty-turns.ensures.packets);
-      rising = rise_all k clock c.ascends.ensures;
+      rising = rise_all k at up c.ascends.ensures;
     }
 
 pub returns-in_err-turn-clause-idle : goal.returns-in_err-turn-clause-idle
 returns-in_err-turn-clause-idle c fits =
-    let next = next_is c.args.self.now c.args.clock c.loop-id.walk c.loop-id.invariant.walks c.in-Some.id (sym c.next.ensures ∙ c.in-Some.is) in
+    let next = next_is c.args.self.now (record { author = c.author.result; clock = c.args.clock }) (is_up c.args.up.now) c.loop-id.walk c.loop-id.invariant.walks c.in-Some.id (sym c.next.ensures ∙ c.in-Some.is) in
     let nothing = sym (c.turn_of.ensures.idle (fits c.in-Some.id next.among)) ∙ c.in_err-turn.was in
     absurd (cc)
 
 pub returns-in_err-add-clause-idle : goal.returns-in_err-add-clause-idle
 returns-in_err-add-clause-idle c fits =
-    let next = next_is c.args.self.now c.args.clock c.loop-id.walk c.loop-id.invariant.walks c.in-Some.id (sym c.next.ensures ∙ c.in-Some.is) in
+    let next = next_is c.args.self.now (record { author = c.author.result; clock = c.args.clock }) (is_up c.args.up.now) c.loop-id.walk c.loop-id.invariant.walks c.in-Some.id (sym c.next.ensures ∙ c.in-Some.is) in
     let nothing = sym (c.turn_of.ensures.idle (fits c.in-Some.id next.among)) ∙ c.in_ok-turn.was ∙ ap Ok c.in-Some-2.is in
     absurd (cc)
 
@@ -42,7 +48,7 @@ pub loop-id-smaller : goal.loop-id-smaller
 loop-id-smaller c =
     let k = c.args.self.now in
     let ids = ids_of (ticked (kept_of k) c.args.clock) in
-    let next = next_is k c.args.clock c.loop-id.walk c.loop-id.invariant.walks c.in-Some.id (sym c.next.ensures ∙ c.in-Some.is) in
+    let next = next_is k (record { author = c.author.result; clock = c.args.clock }) (is_up c.args.up.now) c.loop-id.walk c.loop-id.invariant.walks c.in-Some.id (sym c.next.ensures ∙ c.in-Some.is) in
     subst (λ (n : ℕ). length (filter (nat_le n) ids) < length (ids_left k c.args.clock c.loop-id.walk)) (sym c.passed-walk.ensures.from)
     (fewer_left c.loop-id.walk.from c.in-Some.id ids c.loop-id.invariant.rising next.among next.from)
 
@@ -52,8 +58,9 @@ loop-id-preserved c =
     let clock = c.args.clock in
     let id = c.in-Some.id in
     let ids = ids_of (ticked (kept_of k) clock) in
-    let next = next_is k clock c.loop-id.walk c.loop-id.invariant.walks id (sym c.next.ensures ∙ c.in-Some.is) in
     let up = is_up c.args.up.now in
+    let at : Standpoint = record { author = c.author.result; clock = clock } in
+    let next = next_is k at up c.loop-id.walk c.loop-id.invariant.walks id (sym c.next.ensures ∙ c.in-Some.is) in
     let turns = c.loop-id.turns in
     let passed = c.passed-walk.ensures in
     let after = filter (nat_le (suc id)) ids in
@@ -64,7 +71,10 @@ loop-id-preserved c =
     let above : (other : ℕ) → In other after → id < other =
     (λ other among. let there = in_left (suc id) other ids among in let lower = there.1 in omega (arith, lower)) in
     record {
-      walks = next.on c.passed-walk.result passed.from passed.same_live passed.live passed.same_asked passed.asked;
+      walks = next.on c.passed-walk.result passed.from passed.same_live
+          (λ it. next_by (IsPassedBy k.messages c.asleep_at-asleep.result) (IsAsleep at up) k.messages.entries (suc id) c.passed-walk.result.live
+          c.asleep_at-asleep.ensures.passed (passed.live it))
+          passed.same_asked passed.asked;
       turns = elim c.match-branch-2.branch [
         | in-Some-2+in_ok-add w ↦ subst (IsTurning k clock up (ids_left k clock c.passed-walk.result)) (sym w.turns-is)
             (subst (λ (left : List ℕ). IsTurning k clock up left w.add.new.self) (sym rest)
@@ -95,4 +105,4 @@ returns-clause-turned c =
     let none : next_of walk.live walk.asked ≡ None = sym c.next.ensures ∙ c.in_default.is in
     all_turned k clock (is_up c.args.up.now) c.loop-id.turns c.author.result c.author.ensures.node c.author.ensures.incarnation c.requires
     walk c.loop-id.invariant.rising
-    (all_passed k clock walk c.loop-id.invariant.walks none) c.loop-id.invariant.turns
+    (all_passed k (record { author = c.author.result; clock = clock }) (is_up c.args.up.now) walk c.loop-id.invariant.walks none) c.loop-id.invariant.turns

@@ -10,7 +10,7 @@ use Rattle.node_kept.proofs.kept.Kept.turns.Given as goal
 
 abbrev pub invariant-loop-id : goal.invariant-loop-id
 invariant-loop-id l = record {
-  walks : IsWalk l.self l.fn.clock l.walk;
+  walks : IsWalk l.self l.at (is_up l.up) l.walk;
   turns : IsTurning l.self l.fn.clock (is_up l.up) (ids_left l.self l.fn.clock l.walk) l.turns;
   none : NoneFits l.self.setup (kept_of l.self) l.fn.clock (is_up l.up) → (l.turns.messages.items ≡ []) × (l.turns.packets.items ≡ []);
   rising : AreRising (ids_of (ticked (kept_of l.self) l.fn.clock));

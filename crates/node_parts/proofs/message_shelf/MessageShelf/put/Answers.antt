@@ -8,6 +8,8 @@ use Rattle.std.specs.Vec.{vec_capacity}
 use Rattle.shelf.specs.Shelved.{with_value}
 use Rattle.node_parts.specs.declared.message.Message.{Message as Filed}
 use Rattle.node_parts.specs.Living.{AreListed}
+use Rattle.node_parts.specs.Sleeping.{AreNoted, ids_of}
+use Rattle.node_parts.proofs.Dozing.{noted_put}
 use Rattle.node_parts.proofs.Living.{listed_put, listings_left, room_to_list}
 use Rattle.node_parts.proofs.message_shelf.MessageShelf.put.Goals as goal
 
@@ -17,19 +19,24 @@ enlist-requires-clause-room c =
     let cap = vec_capacity c.self.inside.live in
     let more : 0 < cap - length entries = rw (← c.self.view_is) at c.requires.listings in
     let put : c.put.new.self.entries ≡ with_value entries c.args.id (box_value c.args.message) = rw c.number.ensures.value at c.put.ensures.entries in
-    room_to_list entries c.self.inside.live.items cap c.args.id (box_value c.args.message) c.self.invariant more
+    room_to_list entries (ids_of c.self.inside.live.items) cap c.args.id (box_value c.args.message) c.self.invariant.0 more
     (subst (λ (es : List (ℕ × Filed)). IsStrictlySortedBy nat_cmp (keys_of es)) put c.ascends.ensures)
 
 pub invariant_of-self : goal.invariant_of-self
 invariant_of-self c =
-    let entries = c.self.inside.shelf.entries in
-    let cap = vec_capacity c.self.inside.live in
+    let s = c.self.inside in
+    let entries = s.shelf.entries in
+    let ids = ids_of s.live.items in
+    let cap = vec_capacity s.live in
     let more : 0 < cap - length entries = rw (← c.self.view_is) at c.requires.listings in
-    let put : c.put.new.self.entries ≡ with_value entries c.args.id (box_value c.args.message) = rw c.number.ensures.value at c.put.ensures.entries in
-    subst (λ (n : ℕ). AreListed c.put.new.self.entries c.enlist.new.ids.items n) (sym c.enlist.ensures.capacity)
-    (subst (λ (ids : List ℕ). AreListed c.put.new.self.entries ids cap) (sym c.enlist.ensures.ids)
-    (subst (λ (es : List (ℕ × Filed)). AreListed es (insert_key nat_cmp c.self.inside.live.items c.args.id) cap) (sym put)
-    (listed_put entries c.self.inside.live.items cap c.args.id (box_value c.args.message) c.self.invariant more)))
+    let put : c.put.new.self.entries ≡ with_value entries c.args.id (box_value c.args.message) = rw c.number.ensures.value at c.put.ensures.entries in (
+      subst (λ (n : ℕ). AreListed c.put.new.self.entries (ids_of c.enlist.new.live.items) n) (sym c.enlist.ensures.capacity)
+          (subst (λ (ls : List ℕ). AreListed c.put.new.self.entries ls cap) (sym c.enlist.ensures.ids)
+          (subst (λ (es : List (ℕ × Filed)). AreListed es (insert_key nat_cmp ids c.args.id) cap) (sym put)
+          (listed_put entries ids cap c.args.id (box_value c.args.message) c.self.invariant.0 more))),
+      subst (λ (es : List (ℕ × Filed)). AreNoted s.noted es c.enlist.new.live.items) (sym put)
+          (noted_put s.noted entries s.live.items c.enlist.new.live.items c.args.id (box_value c.args.message) c.enlist.ensures.woken c.self.invariant.1),
+    )
 
 pub returns-clause-listings : goal.returns-clause-listings
 returns-clause-listings c =

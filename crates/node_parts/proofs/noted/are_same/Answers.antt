@@ -1,6 +1,6 @@
 use Rattle.std.proofs.Common.{sym, ◌∙◌}
-use Rattle.node_kept.proofs.Idling.{same_texts, texts_same}
-use Rattle.node_kept.proofs.ticking.are_same.Goals as goal
+use Rattle.node_parts.proofs.Accounts.{same_texts, texts_same}
+use Rattle.node_parts.proofs.noted.are_same.Goals as goal
 
 pub returns : goal.returns
 returns c = (
