@@ -30,10 +30,10 @@ FILE = re.compile(r"`([^`]+\.rt)`")
 LINE, PRINTS = re.compile(r"`caller:\s+([\w\s]+)`"), re.compile(r"\s*It prints `([^`]*)`")
 PROOF = re.compile(r"`crates/caller/(proofs/[^`]+)`[^`]*```antt\n(.*?)```", re.DOTALL)
 SOURCES = ("src", "specs", "proofs")
-# Crates of definitions and of laws, which have nothing to call; the program itself; and the server, whose caller can't be short.
+# Crates of definitions and of laws, which have nothing to call; the programs; and the server, whose caller can't be short.
 CALLED_BY_NOBODY = {
     "mc_model", "mc_parts", "mc_laws", "node_model", "node_laws", "table_laws", "arrival_laws", "node_runs", "journal_laws", "calm_laws", "world_fates",
-    "octet_laws", "script_text", "centre", "server",
+    "octet_laws", "script_text", "centre", "earlier_stores", "server",
 }
 
 

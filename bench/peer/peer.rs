@@ -16,6 +16,7 @@ const MOST_ATTEMPTS: u32 = 8;
 const PLACES: usize = 18;
 const ACCOUNTS: [(&[u8], &[u8]); 2] = [(b"sme1", b"pw1"), (b"sme2", b"pw2")];
 const PASSED: [u16; 4] = [0x0204, 0x020C, 0x020E, 0x020F];
+const MESSAGE_PAYLOAD: u16 = 0x0424;
 const NO_ANSWER: Kind = Kind::Failed(997);
 const GIVEN_UP: Kind = Kind::Failed(998);
 const DELIVERED: Kind = Kind::Fate(2, 0);
@@ -466,16 +467,18 @@ impl<'a> Fields<'a> {
 
     fn end(&self) -> Result<(), Fault> { if self.0.is_empty() { Ok(()) } else { Err(CUT) } }
 
-    /// The optional parameters that are passed on.
-    fn passed(&self) -> Result<Vec<u8>, Fault> {
-        let (mut rest, mut passed) = (self.0, Vec::new());
+    /// The optional parameters that are passed on, and the value of the first message_payload.
+    fn passed(&self) -> Result<(Vec<u8>, Option<&'a [u8]>), Fault> {
+        let (mut rest, mut passed, mut payload) = (self.0, Vec::new(), None);
         while !rest.is_empty() {
             let length = rest.get(2..4).map(|length| 4 + usize::from(u16::from_be_bytes([length[0], length[1]])));
             let Some((parameter, others)) = length.and_then(|length| rest.split_at_checked(length)) else { return Err(Fault::Refused(0xC0)) };
-            if PASSED.contains(&u16::from_be_bytes([parameter[0], parameter[1]])) { passed.extend_from_slice(parameter) }
+            let tag = u16::from_be_bytes([parameter[0], parameter[1]]);
+            if PASSED.contains(&tag) { passed.extend_from_slice(parameter) }
+            if tag == MESSAGE_PAYLOAD { payload = payload.or(Some(&parameter[4..])) }
             rest = others;
         }
-        if self.0.len() > 7_000 { Err(Fault::Refused(0xC0)) } else { Ok(passed) }
+        if self.0.len() > 7_000 { Err(Fault::Refused(0xC0)) } else { Ok((passed, payload)) }
     }
 
     /// A message without its times, of which the peer reads none but an empty one.
@@ -487,8 +490,10 @@ impl<'a> Fields<'a> {
         let (registered, _, coding, _) = (self.octet()?, self.octet()?, self.octet()?, self.octet()?);
         let length = self.octet()?;
         if length > 254 { return Err(Fault::Refused(0x01)) }
-        let text = self.take(usize::from(length))?.to_vec();
-        let passed = self.passed()?;
+        let short = self.take(usize::from(length))?;
+        let (passed, payload) = self.passed()?;
+        let text = if short.is_empty() { payload.unwrap_or(short).to_vec() } else { short.to_vec() };
+        if text.len() > 254 { end("the peer has no texts of more than 254 octets") }
         if times != (b"", b"") { end("the peer reads no times") }
         let target = usize::from(destination.digits.first() == Some(&b'2'));
         let (submitter, schedule, expiry) = (0, 0, 0);
