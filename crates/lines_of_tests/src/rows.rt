@@ -134,7 +134,23 @@ deleted 3 0 => Nothing
 tick 946943999 => Nothing
 voted 1 => Nothing
 voted 3 => Nothing
-tick 946944000 sme1 => Nothing";
+tick 946944000 sme1 => Nothing
+
+a message that slept wakes at its expiry
+voted 1 => Nothing
+voted 3 => Nothing
+tick 946943997 => Nothing
+tick 946943998 => Nothing
+tick 946943999 => Nothing
+tick 946944000 => Started 1000100001 1 262162
+
+a message that slept wakes as its account comes up
+voted 1 => Nothing
+voted 3 => Nothing
+tick 946943997 => Nothing
+tick 946943998 sme2 => Nothing
+tick 946943998 sme2 => Nothing
+tick 946943999 sme2 sme1 => Started 1000100001 1 262162";
 
 /// The last lines of a live message that is found among many that are decided.
 pub const LIVE: &str = "\
