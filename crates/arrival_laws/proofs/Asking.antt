@@ -22,9 +22,9 @@ use Rattle.pdu_tables.specs.StatusCodes.{status_code}
 use Rattle.pdu_tables.specs.declared.status.Status.{Status}
 use Rattle.pdu_tables.specs.declared.status.Status.TheVariants as statuses
 use Rattle.pdu_bodies.specs.declared.pdu.Message.{Message}
-use Rattle.desk.specs.Admissions.{about, asks_about, submitted_as, taken_as}
+use Rattle.desk.specs.Admissions.{about, asks_about, routed_as, submitted_as, taken_as}
 use Rattle.desk.specs.Arrivals.{door_at, judged_as, next_id, requested}
-use Rattle.desk.specs.Desk.{asks_reserved_receipt, fields_refusal, first_failing, submission_of, submit_judged, unless, with_room}
+use Rattle.desk.specs.Desk.{asks_reserved_receipt, fields_refusal, first_failing, is_too_long, submission_of, submit_judged, unless, with_room}
 use Rattle.desk.specs.Times.{Times, in_order, times_judged, times_of}
 use Rattle.desk.specs.declared.request.Request.{Request as Asked}
 use Rattle.desk.specs.declared.request.Request.TheVariants as asked
@@ -59,6 +59,9 @@ module _ (serial : ℕ) (busy : Bool) where
 
   no_route_fits : IsFitRefusal serial busy statuses.InvalidDestinationAddress
   no_route_fits = record { throttles = λ is. absurd (omega (arith, is)); fills = λ is. absurd (omega (arith, is)) }
+
+  no_length_fits : IsFitRefusal serial busy statuses.InvalidMessageLength
+  no_length_fits = record { throttles = λ is. absurd (omega (arith, is)); fills = λ is. absurd (omega (arith, is)) }
 
   no_receipt_fits : IsFitRefusal serial busy statuses.InvalidRegisteredDelivery
   no_receipt_fits = record { throttles = λ is. absurd (omega (arith, is)); fills = λ is. absurd (omega (arith, is)) }
@@ -205,14 +208,20 @@ module _ (setup : Setup) (k : Kept) (is_node : IsNode setup.node) (lives : IsInc
 
   submitted_comes : (account : List ℕ) (message : Message) (target : Option (List ℕ)) →
       MayBeAsked setup k (judged_as (submitted_as (door_at setup k) (next_id setup k) account message target))
-  submitted_comes account message None = refusal_comes setup k statuses.InvalidDestinationAddress (no_route_fits k.serial busy)
-  submitted_comes account message (Some target) =
-      by_judged (submit_judged true k.clock setup.default_validity k.serial busy message) (submit_so k.serial busy k.clock setup.default_validity message)
+  submitted_comes account message target = by_length (is_too_long message) target
     where
-      by_judged : (judged : Result Times Status) → IsJudged k.serial busy k.clock judged →
+      by_judged : (target : List ℕ) → (judged : Result Times Status) → IsJudged k.serial busy k.clock judged →
           MayBeAsked setup k (judged_as (taken_as (next_id setup k) account target message judged))
-      by_judged (Ok times) so = submit_comes account target message times so.0 so.1
-      by_judged (Err status) fits = refusal_comes setup k status fits
+      by_judged target (Ok times) so = submit_comes account target message times so.0 so.1
+      by_judged target (Err status) fits = refusal_comes setup k status fits
+
+      by_length : (long : Bool) (target : Option (List ℕ)) → MayBeAsked setup k (judged_as
+          (if long then Err statuses.InvalidMessageLength else routed_as (door_at setup k) (next_id setup k) account message target))
+      by_length true target = refusal_comes setup k statuses.InvalidMessageLength (no_length_fits k.serial busy)
+      by_length false None = refusal_comes setup k statuses.InvalidDestinationAddress (no_route_fits k.serial busy)
+      by_length false (Some target) =
+          by_judged target (submit_judged true k.clock setup.default_validity k.serial busy message)
+          (submit_so k.serial busy k.clock setup.default_validity message)
 
   -- a request that names an id
   named_comes : (ask : ℕ → Request) → ((id : ℕ) → busy ≡ false → id < 2 ^ 64 → MayBeAsked setup k (Arrival (ask id))) → (text : List ℕ) →

@@ -14,10 +14,10 @@ use Rattle.table_laws.specs.Tables.{MayCome, TableNode}
 use Rattle.pdu_tables.specs.declared.status.Status.{Status}
 use Rattle.pdu_tables.specs.declared.status.Status.TheVariants as statuses
 use Rattle.pdu_bodies.specs.declared.pdu.Message.{Message}
-use Rattle.desk.specs.Admissions.{about, admitted, asks_about, taken_as}
+use Rattle.desk.specs.Admissions.{about, admitted, asks_about, routed_as, taken_as}
 use Rattle.desk.specs.Arrivals.{door_at, judged_as, requested}
 use Rattle.desk.specs.Arrivals as arrivals
-use Rattle.desk.specs.Desk.{fields_refusal, submission_of, submit_judged, unless, with_room}
+use Rattle.desk.specs.Desk.{fields_refusal, is_too_long, submission_of, submit_judged, unless, with_room}
 use Rattle.desk.specs.Times.{Times, times_of}
 use Rattle.desk.specs.declared.request.Request.{Request as Asked}
 use Rattle.desk.specs.declared.request.Request.TheVariants as asked
@@ -89,9 +89,13 @@ module _ (settings : Settings) (t : TableNode) (least : 1 ≤ t.serial) (account
   unless_empty false given comes is = comes is
 
   pub may_come : (question : Asked) → admitted (door_of settings t) (next_id t) account question ≡ Ok request → MayCome t request
-  may_come (asked.Submit message None) is = absurd cc
-  may_come (asked.Submit message (Some target)) is =
-      taken_comes message target (submit_judged true t.clock settings.validity t.serial false message) refl is
+  may_come (asked.Submit message target) is = unless_long (is_too_long message) target is
+    where
+      unless_long : (long : Bool) (target : Option (List ℕ)) →
+          Comes (cond long (Err statuses.InvalidMessageLength) (routed_as (door_of settings t) (next_id t) account message target))
+      unless_long true target is = absurd cc
+      unless_long false None is = absurd cc
+      unless_long false (Some target) is = taken_comes message target (submit_judged true t.clock settings.validity t.serial false message) refl is
   may_come (asked.Ask query) is = query_comes query.source.digits (id_in query.message_id) is
   may_come (asked.Cancel cancel) is =
       unless_empty (bytes_eq cancel.message_id []) _ (cancel_comes cancel.source.digits cancel.destination.digits (id_in cancel.message_id)) is

@@ -33,7 +33,7 @@ use Rattle.script_text.specs.Left.{followed_by, rests}
 use Rattle.script_text.specs.Settings.{Settings}
 use Rattle.script_text.specs.Node.{Node, awaiting, request_at, step_at, tick_at, with_step}
 use Rattle.script_text.specs.Prints.{Print}
-use Rattle.script_text.specs.Pushes.{accounts_up, overdue_in, session_at, target_in}
+use Rattle.script_text.specs.Pushes.{accounts_up, is_long, overdue_in, session_at, target_in}
 use Rattle.script_text.specs.Attempts.{Went, all_given_up, concluded, delivered_so, given_up, submission_at, unanswered, went}
 use Rattle.script_text.specs.Runner.{Runner, Acted, Served, Came, answered_by, came_by, ends, fails_by, given_out, gives_up}
 use Rattle.script_text.specs.Runner.{gives_up_by, gone_on, granted, granted_unless, held_in, holds, makes_room}
@@ -327,7 +327,7 @@ module _ (waiting : List Packet) where
   sent_alike : (slot : Slot) (taken : Option Submission) (runner : Runner) → IsAlone runner.node →
       ActedAlike (sent (runner_behind runner) slot taken) (sent runner slot taken)
   sent_alike slot None runner alone = fails_alike slot runner alone
-  sent_alike slot (Some taken) runner alone = sent_to_alike slot taken (target_in runner.sessions taken.target) runner alone
+  sent_alike slot (Some taken) runner alone = sent_to_alike slot taken (target_in runner.sessions (is_long taken.text) taken.target) runner alone
 
   granted_alike : (id : ℕ) (slot : Slot) (refusal : Option GrantRefusal) (runner : Runner) → IsAlone runner.node →
       ActedAlike (granted_unless (runner_behind runner) id slot refusal) (granted_unless runner id slot refusal)

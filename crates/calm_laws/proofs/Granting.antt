@@ -30,7 +30,7 @@ use Rattle.script_text.specs.Settings.{Settings}
 use Rattle.script_text.specs.Attempts.{concluded, submission_at, taken_on, unanswered}
 use Rattle.script_text.specs.Node.{Node, with_step}
 use Rattle.script_text.specs.Prints.{Delivers}
-use Rattle.script_text.specs.Pushes.{delivery_on, target_in, with_push}
+use Rattle.script_text.specs.Pushes.{delivery_on, is_long, target_in, with_push}
 use Rattle.script_text.specs.Runner.{Acted, Owned, Runner, fails_by, held_in, on_grant, pushes, sent_to, session_in, session_or_opened}
 use Rattle.script_text.specs.Runner as runners
 use Rattle.script_text.specs.OneNode.{Happened, OneNode, concludes, prints_now, sent_over}
@@ -110,10 +110,10 @@ module _ (settings : Settings) (first left : ℕ) (streams : List (ℕ × List �
               ap (λ pdu. Delivers number pdu ∷ []) delivered_so,
             )
 
-      over_alike : (target : Option ℕ) → target_in one.sessions taken.target ≡ target → AreGiven (sent_to now slot taken target) (sent_over one id taken target)
+      over_alike : (target : Option ℕ) → target_in one.sessions (is_long taken.text) taken.target ≡ target → AreGiven (sent_to now slot taken target) (sent_over one id taken target)
       over_alike None is = fails
       over_alike (Some number) is =
-          let it = target_found one.sessions None connected were taken.target number is in
+          let it = target_found one.sessions None connected were (is_long taken.text) taken.target number is in
           subst (λ (found : Option Session). AreGiven (pushes now slot taken number found) (sent_over one id taken (Some number))) (sym it.mine_found)
           (goes_out number it)
 
@@ -121,7 +121,7 @@ module _ (settings : Settings) (first left : ℕ) (streams : List (ℕ × List �
     sent_alike None = fails
     sent_alike (Some taken) =
         subst (λ (target : Option ℕ). AreGiven (sent_to now slot taken target) (one_node.sent one id (Some taken)))
-        (sym (target_alike one.sessions None connected were taken.target)) (over_alike taken (target_in one.sessions taken.target) refl)
+        (sym (target_alike one.sessions None connected were (is_long taken.text) taken.target)) (over_alike taken (target_in one.sessions (is_long taken.text) taken.target) refl)
 
 -- ---- what the table says
 

@@ -32,7 +32,7 @@ use Rattle.desk.specs.Admissions.{admitted}
 use Rattle.desk.specs.declared.request.Request.{Request as Asked}
 use Rattle.script_text.specs.Settings.{Settings}
 use Rattle.script_text.specs.Attempts.{unanswered}
-use Rattle.script_text.specs.Pushes.{accounts_up, target_in}
+use Rattle.script_text.specs.Pushes.{accounts_up, is_long, target_in}
 use Rattle.delivery.specs.Targets.{is_up}
 use Rattle.script_text.specs.Runner.{came_by, nothing_came, session_in}
 use Rattle.script_text.specs.Runner as runner
@@ -118,7 +118,7 @@ over_grows one id taken (Some number) = same_length one.node.table
 
 sent_grows : (one : OneNode) (id : ℕ) (taken : Option Submission) → Grows one (sent one id taken).next
 sent_grows one id None = decreed_longer one.node id (decree_of unanswered)
-sent_grows one id (Some taken) = over_grows one id taken (target_in one.sessions taken.target)
+sent_grows one id (Some taken) = over_grows one id taken (target_in one.sessions (is_long taken.text) taken.target)
 
 granted_grows : (one : OneNode) (id : ℕ) (refusal : Option GrantRefusal) → Grows one (granted_unless one id refusal).next
 granted_grows one id None =

@@ -1,5 +1,5 @@
 -- Receipts go out: the runner and the one node push the same over the same sessions, and the same wait still.
-use Rattle.std.proofs.Common.{◌≡◌, ℕ, zero, suc, List, [], ◌∷◌, ◌++◌, length, Option, Some, None, inl, inr, refl, sym, ◌∙◌, ap, subst}
+use Rattle.std.proofs.Common.{◌≡◌, ℕ, zero, suc, false, List, [], ◌∷◌, ◌++◌, length, Option, Some, None, inl, inr, refl, sym, ◌∙◌, ap, subst}
 use Rattle.std.specs.Prelude.{find, is_none}
 use Rattle.std.specs.Ordering.{nat_cmp}
 use Rattle.std.specs.Map.{set_value}
@@ -134,10 +134,10 @@ module _ (now : ℕ) (node : TableNode) (holds : Option Owned) where
     up_to_alike (suc more) theirs ours waiting were fit =
         subst
         (λ (target : Option ℕ). ArePosted (mail ours waiting)
-        (sends_first more (mail theirs waiting) (find (is_for account) waiting) (target_in theirs account))
+        (sends_first more (mail theirs waiting) (find (is_for account) waiting) (target_in theirs false account))
         (sends_first more (mail ours waiting) (find (is_for account) waiting) target))
-        (sym (target_alike theirs holds ours were account))
-        (by_both (up_to_alike more) (find (is_for account) waiting) (target_in theirs account) refl)
+        (sym (target_alike theirs holds ours were false account))
+        (by_both (up_to_alike more) (find (is_for account) waiting) (target_in theirs false account) refl)
       where
         resting : ArePosted (mail ours waiting) (rests (mail theirs waiting)) (rests (mail ours waiting))
         resting = stays_alike (mail theirs waiting) (mail ours waiting) (record { connected = were; fit = fit; waiting = refl })
@@ -145,12 +145,12 @@ module _ (now : ℕ) (node : TableNode) (holds : Option Owned) where
         by_both :
             ((theirs ours : List (ℕ × Session)) (waiting : List Receipt) → AreConnected theirs holds ours → AreFit node theirs →
             ArePosted (mail ours waiting) (goes_out_up_to more now account (mail theirs waiting)) (goes_out_up_to more now account (mail ours waiting))) →
-            (waits : Option Receipt) (target : Option ℕ) → target_in theirs account ≡ target →
+            (waits : Option Receipt) (target : Option ℕ) → target_in theirs false account ≡ target →
             ArePosted (mail ours waiting) (sends_first more (mail theirs waiting) waits target) (sends_first more (mail ours waiting) waits target)
         by_both others None target is = resting
         by_both others (Some receipt) None is = resting
         by_both others (Some receipt) (Some number) is =
-            let it = target_found theirs holds ours were account number is in
+            let it = target_found theirs holds ours were false account number is in
             let first = out_alike theirs ours waiting receipt number were fit it in
             let later = others (goes_out now account (mail theirs waiting) receipt number).next.sessions
             (goes_out now account (mail ours waiting) receipt number).next.sessions (without_first (is_for account) waiting) first.mailed.connected

@@ -1,5 +1,5 @@
 -- What goes out to ESMEs: the runner and the one node find the same accounts and the same session, and push alike.
-use Rattle.std.proofs.Common.{◌≡◌, ℕ, Bool, true, List, [], ◌∷◌, ◌++◌, Option, Some, None, refl, sym, ◌∙◌, ap, subst}
+use Rattle.std.proofs.Common.{◌≡◌, ℕ, Bool, true, ◌&&◌, ◌||◌, not, List, [], ◌∷◌, ◌++◌, Option, Some, None, refl, sym, ◌∙◌, ap, subst}
 use Rattle.std.specs.Prelude.{find, is_none}
 use Rattle.std.specs.List.{filter_map}
 use Rattle.std.specs.Ordering.{nat_cmp}
@@ -17,7 +17,7 @@ use Rattle.sessions.specs.declared.pushed.Delivery.TheVariants.{Attempt, Receipt
 use Rattle.sessions.specs.declared.pushed.Pushed.{Pushed}
 use Rattle.sessions.specs.declared.pushed.PushRefusal.{PushRefusal}
 use Rattle.sessions.specs.declared.request.OpenRequest.{OpenRequest}
-use Rattle.script_text.specs.Pushes.{accounts_up, is_of, pushed_on, receiver_of, session_at, session_numbers, takes_for, target_in, with_push}
+use Rattle.script_text.specs.Pushes.{accounts_up, is_of, knows_optional, pushed_on, receiver_of, session_at, session_numbers, takes_for, target_in, with_push}
 use Rattle.script_text.specs.Runner.{Owned, session_in, session_or_opened}
 use Rattle.calm_laws.proofs.Connected.{AreConnected, one_set}
 use Rattle.calm_laws.proofs.Plain.{IsBut, IsPlain, each_but, holding, set_but}
@@ -31,9 +31,9 @@ received_as : (found : Option Session) → receiver_of found ≡ receiver_of (So
 received_as None = refl
 received_as (Some session) = refl
 
-taken_as : (target : List ℕ) (found : Option Session) → takes_for target found ≡ takes_for target (Some (session_or_opened found))
-taken_as target None = refl
-taken_as target (Some session) = refl
+taken_as : (long : Bool) (target : List ℕ) (found : Option Session) → takes_for long target found ≡ takes_for long target (Some (session_or_opened found))
+taken_as long target None = refl
+taken_as long target (Some session) = refl
 
 none_so : {A : Type 0} (found : Option A) → is_none found ≡ true → found ≡ None
 none_so None is = refl
@@ -45,12 +45,12 @@ record IsTaking (found : Option Session) : Type 0 where
   found_is : found ≡ Some session
   accepts : push_refusal session ≡ None
 
-taking : (target : List ℕ) (found : Option Session) → takes_for target found ≡ true → IsTaking found
-taking target None takes = absurd cc
-taking target (Some session) takes = record {
+taking : (long : Bool) (target : List ℕ) (found : Option Session) → takes_for long target found ≡ true → IsTaking found
+taking long target None takes = absurd cc
+taking long target (Some session) takes = record {
   session = session;
   found_is = refl;
-  accepts = none_so (push_refusal session) (and_parts (is_none (push_refusal session)) (is_of target session.account) takes).0;
+  accepts = none_so (push_refusal session) (and_parts (is_none (push_refusal session)) (is_of target session.account && (not long || knows_optional session)) takes).0;
 }
 
 -- requests that wait are no matter of a push
@@ -76,15 +76,15 @@ module _ (theirs : List (ℕ × Session)) (holds : Option Owned) (connected : Li
           ∙ ap (λ (s : Session). receiver_of (Some s)) (were.each number)
           ∙ sym (received_as (session_at theirs number))
 
-  takes_alike : (target : List ℕ) (number : ℕ) → takes_for target (session_at connected number) ≡ takes_for target (session_at theirs number)
-  takes_alike target number =
-      taken_as target (session_at connected number)
-      ∙ ap (λ (s : Session). takes_for target (Some s)) (were.each number)
-      ∙ sym (taken_as target (session_at theirs number))
+  takes_alike : (long : Bool) (target : List ℕ) (number : ℕ) → takes_for long target (session_at connected number) ≡ takes_for long target (session_at theirs number)
+  takes_alike long target number =
+      taken_as long target (session_at connected number)
+      ∙ ap (λ (s : Session). takes_for long target (Some s)) (were.each number)
+      ∙ sym (taken_as long target (session_at theirs number))
 
-  pub target_alike : (target : List ℕ) → target_in connected target ≡ target_in theirs target
+  pub target_alike : (long : Bool) (target : List ℕ) → target_in connected long target ≡ target_in theirs long target
   unfolding target_in
-  target_alike target = ap (λ (f : ℕ → Bool). find f session_numbers) (fun_ext (takes_alike target))
+  target_alike long target = ap (λ (f : ℕ → Bool). find f session_numbers) (fun_ext (takes_alike long target))
 
   -- ---- a session that takes something
 
@@ -97,13 +97,13 @@ module _ (theirs : List (ℕ × Session)) (holds : Option Owned) (connected : Li
     pub mine_is : mine ≡ holding session (requests_at holds number)
     pub accepts : push_refusal session ≡ None
 
-  pub target_found : (target : List ℕ) (number : ℕ) → target_in theirs target ≡ Some number → IsTarget number
+  pub target_found : (long : Bool) (target : List ℕ) (number : ℕ) → target_in theirs long target ≡ Some number → IsTarget number
   unfolding target_in
-  target_found target number is =
-      let takes : takes_for target (session_at theirs number) ≡ true =
-      find-passes (λ n. takes_for target (session_at theirs n)) session_numbers number is in
-      let there = taking target (session_at theirs number) takes in
-      let here = taking target (session_at connected number) (takes_alike target number ∙ takes) in
+  target_found long target number is =
+      let takes : takes_for long target (session_at theirs number) ≡ true =
+      find-passes (λ n. takes_for long target (session_at theirs n)) session_numbers number is in
+      let there = taking long target (session_at theirs number) takes in
+      let here = taking long target (session_at connected number) (takes_alike long target number ∙ takes) in
       record {
         session = there.session;
         mine = here.session;

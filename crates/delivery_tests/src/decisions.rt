@@ -9,7 +9,7 @@ use pdu_codec::{SystemId, Text};
 use std::alloc::Global;
 use std::process::Abort;
 use synod_acceptor::Vote;
-use tick_rules::{Attempted, Closing, Due, Standpoint, follow};
+use tick_rules::{Attempted, Closing, Due, Standpoint, follow, until_due};
 
 /// What was done with the attempt.
 #[derive(Clone, Copy)]
@@ -168,6 +168,50 @@ fn a_message_that_waits_is_deleted_before_it_is_attempted(rt: HostRuntime) {
     ];
     assert_decided(&rt, alloc, &[], &on_taken);
     assert_decided(&rt, alloc, &OPEN, &on_open);
+}
+
+/// How many seconds after the message was taken something is due after these decrees, for node 1 in this incarnation; none if it is now.
+fn due_after(
+    rt: &impl Abort,
+    alloc: Global,
+    steps: &[Step],
+    incarnation: u16,
+    by: (Done, Up),
+) -> Option<u32> {
+    let (done, up) = by;
+    let author = standpoint(rt, incarnation).author;
+    let chain = chain(rt, alloc, 1, steps);
+    let up = accounts(rt, alloc, up);
+    let until = until_due(author, &chain, attempted(done), &up);
+    drop(up);
+    drop(chain);
+    Some(until?.seconds().saturating_sub(TAKEN))
+}
+
+const FAILED: [Step; 2] = [Step::Attempt(0, 1), Step::Failed(30, 100)];
+
+#[test]
+fn nothing_is_due_until_the_expiry_or_the_next_attempt(rt: HostRuntime) {
+    let alloc = rt.alloc();
+    let found = [
+        due_after(&rt, alloc, &[], 1, (Done::Nothing, Up::Sme1)),
+        due_after(&rt, alloc, &[], 1, (Done::Nothing, Up::Sme2)),
+        due_after(&rt, alloc, &FAILED, 1, (Done::Nothing, Up::Sme1)),
+        due_after(&rt, alloc, &FAILED, 1, (Done::Nothing, Up::Sme2)),
+    ];
+    assert_same(&rt, &found, &[None, Some(259_200), Some(90), Some(259_200)]);
+}
+
+#[test]
+fn nothing_is_due_while_an_attempt_is_open(rt: HostRuntime) {
+    let alloc = rt.alloc();
+    let found = [
+        due_after(&rt, alloc, &OPEN, 1, (Done::Granted, Up::Sme2)),
+        due_after(&rt, alloc, &OPEN, 1, (Done::Nothing, Up::Sme2)),
+        due_after(&rt, alloc, &OPEN, 1, (Done::Closed, Up::Sme1)),
+        due_after(&rt, alloc, &OPEN, 2, (Done::Granted, Up::Sme1)),
+    ];
+    assert_same(&rt, &found, &[Some(2_395_785_599), None, None, None]);
 }
 
 /// The final state in which a chain ends, its error, and how many seconds after the message was taken.

@@ -12,7 +12,7 @@ use Rattle.desk.specs.declared.door.Admitted.TheVariants as admissions
 use Rattle.desk.specs.declared.door.Door.{Door}
 use Rattle.desk.specs.declared.request.Request.{Request as Asked}
 use Rattle.desk.specs.declared.request.Request.TheVariants as asked
-use Rattle.desk.specs.Desk.{submission_of, submit_judged}
+use Rattle.desk.specs.Desk.{is_too_long, submission_of, submit_judged}
 use Rattle.desk.specs.Times.{Times}
 
 -- the id that a request names, if another request may wait
@@ -29,10 +29,15 @@ taken_as next account target message (Ok times) = Ok (Submit next (submission_of
 taken_as next account target message (Err status) = Err status
 
 -- no route leads from the destination, or one to this account
-abbrev pub submitted_as : Door → ℕ → List ℕ → Message → Option (List ℕ) → Result Request Status
-submitted_as door next account message None = Err statuses.InvalidDestinationAddress
-submitted_as door next account message (Some target) =
+abbrev pub routed_as : Door → ℕ → List ℕ → Message → Option (List ℕ) → Result Request Status
+routed_as door next account message None = Err statuses.InvalidDestinationAddress
+routed_as door next account message (Some target) =
     taken_as next account target message (submit_judged true door.clock door.validity door.serial door.busy message)
+
+-- a text that is too long is refused before that is looked at
+abbrev pub submitted_as : Door → ℕ → List ℕ → Message → Option (List ℕ) → Result Request Status
+submitted_as door next account message target =
+    if is_too_long message then Err statuses.InvalidMessageLength else routed_as door next account message target
 
 -- a request of an account, of which a submit_sm gets the id that is next
 abbrev pub admitted : Door → ℕ → List ℕ → Asked → Result Request Status

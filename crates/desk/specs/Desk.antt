@@ -1,5 +1,5 @@
 -- The checks of a submit_sm, what is taken of it, and what a query_sm shows of a chain.
-use Rattle.std.specs.Prelude.{ℕ, Bool, ◌%◌, min, nat_lt, ◌==◌, ◌||◌, not, List, [], ◌∷◌, filter, Option, Some, None, Result, Ok, Err, if◌then◌else◌}
+use Rattle.std.specs.Prelude.{ℕ, Bool, ◌%◌, min, nat_lt, ◌==◌, ◌||◌, not, List, [], ◌∷◌, filter, length, Option, Some, None, Result, Ok, Err, if◌then◌else◌}
 use Rattle.std.specs.Str.{bytes_eq}
 use Rattle.std.specs.Option.{option_map}
 use Rattle.mc_model.specs.message.Ids.{most_serial}
@@ -8,8 +8,12 @@ use Rattle.mc_model.specs.message.Decree.{Decree}
 use Rattle.mc_model.specs.message.Chain.{Chain, final_in, error_in}
 use Rattle.pdu_tables.specs.declared.status.Status.{Status}
 use Rattle.pdu_tables.specs.declared.status.Status.TheVariants as statuses
+use Rattle.pdu_tables.specs.TagCodes.{tag_code}
+use Rattle.pdu_tables.specs.declared.tag.Tag.TheVariants.{MessagePayload}
 use Rattle.pdu_codec.specs.Text.{has_tag_among}
+use Rattle.pdu_codec.specs.Tlv.{value_of}
 use Rattle.pdu_bodies.specs.declared.pdu.Message.{Message}
+use Rattle.fate_chain.specs.Content.{most_text}
 use Rattle.fate_chain.specs.States.{state_of}
 use Rattle.fate_chain.specs.Submissions.{address_of}
 use Rattle.desk.specs.declared.request.Answer.{Answer}
@@ -55,6 +59,20 @@ abbrev pub submit_judged : Bool → ℕ → ℕ → ℕ → Bool → Message →
 submit_judged has_route now validity serial busy message =
     unless (fields_refusal has_route message) (with_room serial busy (times_of validity now message))
 
+-- Its text is its short_message, or if that is empty the value of the first message_payload (SMPP 3.4, 4.4.1 and 5.3.2.32).
+abbrev pub payload_in : Message → Option (List ℕ)
+payload_in message = if bytes_eq message.short_message [] then value_of (tag_code MessagePayload) message.tlvs else None
+
+abbrev pub text_by : List ℕ → Option (List ℕ) → List ℕ
+text_by short None = short
+text_by short (Some payload) = payload
+
+abbrev pub text_of : Message → List ℕ
+text_of message = text_by message.short_message (payload_in message)
+
+abbrev pub is_too_long : Message → Bool
+is_too_long message = nat_lt most_text (length (text_of message))
+
 -- the optional parameters that are passed on: user_message_reference and the three of concatenated messages
 abbrev pub passed_tags : List ℕ
 passed_tags = 0x0204 ∷ 0x020c ∷ 0x020e ∷ 0x020f ∷ []
@@ -74,7 +92,7 @@ submission_of account target times message = record {
   data_coding = message.data_coding;
   schedule = times.schedule;
   expiry = times.expiry;
-  text = message.short_message;
+  text = text_of message;
   passed = filter (has_tag_among passed_tags) message.tlvs;
 }
 

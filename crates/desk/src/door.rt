@@ -1,22 +1,28 @@
 //! What is looked at when a request comes: what is refused at once, and what waits.
 
 ghost use Rattle.std.specs.Prelude.{◌≡◌, ◌≤◌, ℕ, false, true, Ok, IfOk, IsOk, OnErr, OnOk};
-ghost use Rattle.desk.specs.Desk.{fields_refusal, submission_of};
+ghost use Rattle.std.specs.Global.{Vec};
+ghost use Rattle.std.specs.Option.{option_map};
+ghost use Rattle.pdu_codec.specs.Text.{AreOptional, IsShortMessage};
+ghost use Rattle.desk.specs.Desk.{fields_refusal, is_too_long, payload_in, submission_of, text_by, text_of};
 ghost use Rattle.mc_types.specs.Texts.{id_in};
 ghost use Rattle.desk.specs.declared.request.Request.TheVariants as requests;
-ghost use Rattle.desk.specs.Admissions.{MayWait, about, admitted, asked_as, submitted_as};
+ghost use Rattle.desk.specs.Admissions.{MayWait, about, admitted, asked_as, routed_as, submitted_as};
 
 use crate::request::Request;
 use crate::times::Times;
-use fate_chain::Submission;
+use fate_chain::{Content, Submission};
 use mc_types::{LAST_SERIAL, Moment, MsgId};
-use pdu_codec::{AddressDigits, Cancel, Message, MessageIdText, Query, SystemId};
-use pdu_tables::Status;
+use pdu_codec::{AddressDigits, Cancel, Message, MessageIdText, Query, ShortMessage, SystemId};
+use pdu_tables::{Status, Tag};
 use std::alloc::AllocError;
 
 /// The tags of the optional parameters that are passed on: user_message_reference, sar_msg_ref_num,
 /// sar_total_segments and sar_segment_seqnum.
 const PASSED: [u16; 4] = [0x0204, 0x020c, 0x020e, 0x020f];
+
+/// How many octets the text of a message has at most.
+const MOST_TEXT: usize = 4096;
 
 /// What is looked at when a request comes: the clock, how long a message is valid that asks for nothing else, in seconds, the serial
 /// of the next message (100000 if none is left), and whether no request more may wait.
@@ -79,6 +85,24 @@ impl Door {
     ) -> Result<Result<Admitted, Status>, AllocError>
         ensures admitted { IfOk result (λ judged. (next : ℕ) → asked_as next judged ≡ submitted_as self.now next account.now message target) }
         ensures memory { OnErr result ((next : ℕ) → IsOk (submitted_as self.now next account.now message target)) }
+        ensures waits { IfOk result (λ judged. IfOk judged (MayWait self.now)) }
+    {
+        if is_too_long(&message) {
+            return Ok(Err(Status::InvalidMessageLength));
+        }
+        self.route(account, message, target)
+    }
+
+    /// What is taken of a submit_sm whose text is not too long.
+    fn route(
+        &self,
+        account: &SystemId,
+        message: Message,
+        target: Option<SystemId>,
+    ) -> Result<Result<Admitted, Status>, AllocError>
+        requires { is_too_long message ≡ false }
+        ensures admitted { IfOk result (λ judged. (next : ℕ) → asked_as next judged ≡ routed_as self.now next account.now message target) }
+        ensures memory { OnErr result ((next : ℕ) → IsOk (routed_as self.now next account.now message target)) }
         ensures waits { IfOk result (λ judged. IfOk judged (MayWait self.now)) }
     {
         let Some(target) = target else {
@@ -204,6 +228,56 @@ fn fields_refusal(message: &Message) -> Option<Status>
     (message.registered_delivery % 4 == 3).then_some(Status::InvalidRegisteredDelivery)
 }
 
+/// Whether the text of a submit_sm is too long.
+fn is_too_long(message: &Message) -> bool
+    ensures { result ≡ is_too_long message.now }
+{
+    text_of(message).len() > MOST_TEXT
+}
+
+/// The text of a submit_sm.
+fn text_of(message: &Message) -> &[u8]
+    ensures { result.now ≡ text_of message.now }
+{
+    let short = message.short_message.octets();
+    if !short.is_empty() {
+        return short;
+    }
+    match message.tlvs.get(Tag::MessagePayload.code()) {
+        Some(payload) => payload,
+        None => short,
+    }
+}
+
+/// What a proof takes of a submit_sm: its short_message and its optional parameters are within their limits. The call does nothing.
+fn limits(message: &Message)
+    ensures short { IsShortMessage message.now.short_message }
+    ensures optional { AreOptional message.now.tlvs }
+{
+    let _short = message.short_message.octets();
+    let _optional = message.tlvs.octets();
+}
+
+/// A copy of the message_payload of a submit_sm, if that is its text.
+fn payload(message: &Message) -> Result<Option<Vec<u8>>, AllocError>
+    ensures { IfOk result (λ copied. option_map (λ (octets : Vec ℕ). octets.items) copied ≡ payload_in message.now) }
+{
+    if !message.short_message.octets().is_empty() {
+        return Ok(None);
+    }
+    message.tlvs.copy_of(Tag::MessagePayload.code())
+}
+
+/// The text of a submit_sm, of which the first is a copy of its message_payload, if that is its text.
+fn owned(payload: Option<Vec<u8>>, short: ShortMessage) -> Vec<u8>
+    ensures { result.items ≡ text_by short (option_map (λ (octets : Vec ℕ). octets.items) payload) }
+{
+    match payload {
+        Some(octets) => octets,
+        None => short.into_octets(),
+    }
+}
+
 /// What is taken of a submit_sm of an account that goes to another.
 fn submission(
     account: &SystemId,
@@ -211,10 +285,13 @@ fn submission(
     times: Times,
     message: Message,
 ) -> Result<Submission, AllocError>
+    requires { is_too_long message ≡ false }
     ensures { IfOk result (λ taken. taken ≡ submission_of account.now target times message) }
 {
     let submitter = account.copy()?;
     let passed = message.tlvs.with_tags(&PASSED)?;
+    let payload = payload(&message)?;
+    limits(&message);
     Ok(Submission {
         submitter,
         target,
@@ -228,7 +305,6 @@ fn submission(
         data_coding: message.data_coding,
         schedule: times.schedule(),
         expiry: times.expiry(),
-        text: message.short_message,
-        passed,
+        content: Content::of(owned(payload, message.short_message), passed),
     })
 }

@@ -1,5 +1,5 @@
 -- The sessions by their numbers, from one number on.
-use Rattle.std.proofs.Common.{◌≡◌, ℕ, suc, ◌+◌, ◌-◌, ◌<◌, ◌≤◌, Bool, true, List, [], ◌∷◌, ◌++◌, find, Option, Some, None, Result, Ok}
+use Rattle.std.proofs.Common.{◌≡◌, ℕ, suc, ◌+◌, ◌-◌, ◌<◌, ◌≤◌, Bool, true, not, ◌&&◌, ◌||◌, List, [], ◌∷◌, ◌++◌, length, length-append, find, Option, Some, None, Result, Ok}
 use Rattle.std.proofs.Common.{if◌then◌else◌, ap, sym, ◌∙◌, arith, refl, append_assoc}
 use Rattle.std.proofs.lemmas.Bool.{and_parts, false≢true}
 use Rattle.std.specs.List.{cons_option, filter_map, range_with_len}
@@ -65,40 +65,49 @@ one_looked_at connected number account found more all most so is adds =
     front None rest = refl
     front (Some account) rest = refl
 
+-- if no account has such a session, none is found
+pub no_account_found : (connected : List (ℕ × Session)) (number : ℕ) (account : List ℕ) (found all : List (List ℕ)) → number ≤ 99
+    → found ++ accounts_from connected number ≡ all → Some account ≡ receiver_of (session_at connected number) → all ≡ [] → ⊥
+no_account_found connected number account found all most so is none =
+    let more = one_looked_at connected number (Some account) found (found ++ (account ∷ [])) all most so is refl in
+    let counted : length ((found ++ (account ∷ [])) ++ accounts_from connected (number + 1)) ≡ 0 = ap length (more ∙ none) in
+    let known = simp length-append at counted in
+    omega arith
+
 -- ---- over which a deliver_sm goes
 
-unfoldable pub target_from : List (ℕ × Session) → List ℕ → ℕ → Option ℕ
-target_from connected target number = find (λ one. takes_for target (session_at connected one)) (range_with_len number (100 - number))
+unfoldable pub target_from : List (ℕ × Session) → Bool → List ℕ → ℕ → Option ℕ
+target_from connected long target number = find (λ one. takes_for long target (session_at connected one)) (range_with_len number (100 - number))
 
-pub first_target : (connected : List (ℕ × Session)) (target : List ℕ) → target_from connected target 1 ≡ target_in connected target
+pub first_target : (connected : List (ℕ × Session)) (long : Bool) (target : List ℕ) → target_from connected long target 1 ≡ target_in connected long target
 unfolding target_from target_in session_numbers
-first_target connected target = refl
+first_target connected long target = refl
 
-pub no_target : (connected : List (ℕ × Session)) (target : List ℕ) (number : ℕ) → 99 < number → target_from connected target number ≡ None
+pub no_target : (connected : List (ℕ × Session)) (long : Bool) (target : List ℕ) (number : ℕ) → 99 < number → target_from connected long target number ≡ None
 unfolding target_from
-no_target connected target number over = ap (find (λ one. takes_for target (session_at connected one))) (from_the_end number 100 (omega arith))
+no_target connected long target number over = ap (find (λ one. takes_for long target (session_at connected one))) (from_the_end number 100 (omega arith))
 
-pub next_target : (connected : List (ℕ × Session)) (target : List ℕ) (number : ℕ) (takes : Bool) → number ≤ 99
-    → takes ≡ takes_for target (session_at connected number)
-    → target_from connected target number ≡ (if takes then Some number else target_from connected target (number + 1))
+pub next_target : (connected : List (ℕ × Session)) (long : Bool) (target : List ℕ) (number : ℕ) (takes : Bool) → number ≤ 99
+    → takes ≡ takes_for long target (session_at connected number)
+    → target_from connected long target number ≡ (if takes then Some number else target_from connected long target (number + 1))
 unfolding target_from
-next_target connected target number takes most is =
-    ap (find (λ one. takes_for target (session_at connected one))) (from_the_next number 100 (omega arith))
-    ∙ ap (λ (test : Bool). if test then Some number else target_from connected target (number + 1)) (sym is)
+next_target connected long target number takes most is =
+    ap (find (λ one. takes_for long target (session_at connected one))) (from_the_next number 100 (omega arith))
+    ∙ ap (λ (test : Bool). if test then Some number else target_from connected long target (number + 1)) (sym is)
 
 -- ---- the session that takes it
 
 -- it takes it
-pub takes_it : (connected : List (ℕ × Session)) (target : List ℕ) (number : ℕ) → Some number ≡ target_in connected target
-    → takes_for target (session_at connected number) ≡ true
+pub takes_it : (connected : List (ℕ × Session)) (long : Bool) (target : List ℕ) (number : ℕ) → Some number ≡ target_in connected long target
+    → takes_for long target (session_at connected number) ≡ true
 unfolding target_in
-takes_it connected target number is = find-passes (λ one. takes_for target (session_at connected one)) session_numbers number (sym is)
+takes_it connected long target number is = find-passes (λ one. takes_for long target (session_at connected one)) session_numbers number (sym is)
 
-pub is_there : (target : List ℕ) (stands : Option Session) → takes_for target stands ≡ true → stands ≡ None → ⊥
-is_there target stands takes none = false≢true (ap (takes_for target) (sym none) ∙ takes)
+pub is_there : (long : Bool) (target : List ℕ) (stands : Option Session) → takes_for long target stands ≡ true → stands ≡ None → ⊥
+is_there long target stands takes none = false≢true (ap (takes_for long target) (sym none) ∙ takes)
 
-pub not_refused : (target : List ℕ) (session : Session) → takes_for target (Some session) ≡ true → push_refusal session ≡ None
-not_refused target session takes = by_refusal (push_refusal session) (and_parts (is_none (push_refusal session)) (is_of target session.account) takes).0
+pub not_refused : (long : Bool) (target : List ℕ) (session : Session) → takes_for long target (Some session) ≡ true → push_refusal session ≡ None
+not_refused long target session takes = by_refusal (push_refusal session) (and_parts (is_none (push_refusal session)) (is_of target session.account && (not long || knows_optional session)) takes).0
   where
     by_refusal : (refusal : Option PushRefusal) → is_none refusal ≡ true → refusal ≡ None
     by_refusal None none = refl
@@ -109,16 +118,16 @@ pub gives_sequence : (session : Session) → push_refusal session ≡ None → p
 gives_sequence session none = ap (λ (refusal : Option PushRefusal). sequence_unless refusal session.next_sequence) none
 
 -- it goes out there
-pub goes_out : (connected left : List (ℕ × Session)) (target : List ℕ) (now sequence : ℕ) (delivery : Delivery) (number : ℕ) (knows : Bool) (session : Session)
-    → Some number ≡ target_in connected target → session_at connected number ≡ Some session → push_result session ≡ Ok sequence
+pub goes_out : (connected left : List (ℕ × Session)) (long : Bool) (target : List ℕ) (now sequence : ℕ) (delivery : Delivery) (number : ℕ) (knows : Bool) (session : Session)
+    → Some number ≡ target_in connected long target → session_at connected number ≡ Some session → push_result session ≡ Ok sequence
     → knows ≡ knows_optional session → left ≡ set_value (is_at (nat_cmp number)) connected (on_push session now delivery)
-    → GoesOut connected target now delivery (record { number = number; sequence = sequence; knows_optional = knows }) left
-goes_out connected left target now sequence delivery number knows session is stands gave optional after = record {
+    → GoesOut connected long target now delivery (record { number = number; sequence = sequence; knows_optional = knows }) left
+goes_out connected left long target now sequence delivery number knows session is stands gave optional after = record {
   session = session;
   takes = sym is;
   stands = stands;
   sequence =
-      let refused = not_refused target session (ap (takes_for target) (sym stands) ∙ takes_it connected target number is) in
+      let refused = not_refused long target session (ap (takes_for long target) (sym stands) ∙ takes_it connected long target number is) in
       is_ok (sym gave ∙ gives_sequence session refused);
   optional = optional;
   left = after ∙ ap (pushed_on connected number now delivery) (sym stands);

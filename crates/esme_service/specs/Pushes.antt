@@ -1,5 +1,5 @@
 -- What the centre pushes to ESMEs: over which session a deliver_sm goes, and what it brings (SMPP 3.4, 4.6.1; the sessions: own).
-use Rattle.std.specs.Prelude.{ℕ, Bool, true, false, ◌&&◌, nat_le, List, [], filter, find, map, Option, Some, None, is_none, if◌then◌else◌}
+use Rattle.std.specs.Prelude.{ℕ, Bool, true, false, ◌&&◌, ◌||◌, not, nat_le, List, [], filter, find, map, Option, Some, None, is_none, if◌then◌else◌}
 use Rattle.std.specs.List.{filter_map, flat_map, range_with_len}
 use Rattle.std.specs.Map.{lookup, set_value}
 use Rattle.std.specs.Ordering.{nat_cmp}
@@ -16,6 +16,7 @@ use Rattle.sessions.specs.Steps.{on_push, on_tick, push_refusal}
 use Rattle.sessions.specs.Windows.{is_overdue}
 use Rattle.sessions.specs.declared.pushed.Delivery.{Delivery}
 use Rattle.sessions.specs.declared.pushed.Pushed.{Pushed}
+pub use Rattle.fate_chain.specs.Content.{is_long}
 
 -- ---- the sessions that are connected, by their numbers
 
@@ -37,24 +38,24 @@ accounts_up connected = filter_map (λ number. receiver_of (session_at connected
 
 -- ---- over which session a deliver_sm goes
 
+-- interface_versions below 3.4 know no optional parameters (5.2.4)
+abbrev pub knows_optional : Session → Bool
+knows_optional session = nat_le 0x34 session.interface_version
+
 abbrev pub is_of : List ℕ → Option (List ℕ) → Bool
 is_of target None = false
 is_of target (Some account) = bytes_eq account target
 
--- the session is of the account, may receive, and has room
-abbrev pub takes_for : List ℕ → Option Session → Bool
-takes_for target None = false
-takes_for target (Some session) = is_none (push_refusal session) && is_of target session.account
+-- The session is of the account, may receive, and has room. For a text that is an optional parameter it has to know these.
+abbrev pub takes_for : Bool → List ℕ → Option Session → Bool
+takes_for long target None = false
+takes_for long target (Some session) = is_none (push_refusal session) && (is_of target session.account && (not long || knows_optional session))
 
 -- the lowest number of such a session
-unfoldable pub target_in : List (ℕ × Session) → List ℕ → Option ℕ
-target_in connected target = find (λ number. takes_for target (session_at connected number)) session_numbers
+unfoldable pub target_in : List (ℕ × Session) → Bool → List ℕ → Option ℕ
+target_in connected long target = find (λ number. takes_for long target (session_at connected number)) session_numbers
 
 -- ---- what it brings
-
--- interface_versions below 3.4 know no optional parameters (5.2.4)
-abbrev pub knows_optional : Session → Bool
-knows_optional session = nat_le 0x34 session.interface_version
 
 abbrev pub with_optional : Bool → Message → Message
 with_optional true message = message

@@ -1,5 +1,5 @@
 -- What goes out on a session is a PDU.
-use Rattle.std.specs.Prelude.{◌≡◌, ℕ, Bool, List, Option, Some, option_map}
+use Rattle.std.specs.Prelude.{◌≡◌, ℕ, Bool, List, Option, Some, None, option_map}
 use Rattle.mc_model.specs.message.Chain.{taken_in}
 use Rattle.mc_model.specs.message.Submission.{Submission}
 use Rattle.pdu_codec.specs.Pdu.{octets_of}
@@ -31,3 +31,9 @@ AreOctetsOf (Attempt pushed chain) octets =
     → octets ≡ Some (octets_of (deliver_sm pushed.sequence pushed.knows_optional (delivered_message taken)))
 AreOctetsOf (Receipt pushed chain) octets =
     octets ≡ option_map (report_octets pushed.sequence pushed.knows_optional) (reported_on chain.id chain.decrees)
+
+-- An attempt has no PDU if its chain does not end in one, and a receipt if the chain reports nothing.
+abbrev pub HasNoPdu : Sending → Type 0
+HasNoPdu (Reply owner reply) = ⊥
+HasNoPdu (Attempt pushed chain) = ¬ EndsInAttempt chain.decrees
+HasNoPdu (Receipt pushed chain) = reported_on chain.id chain.decrees ≡ None

@@ -1,6 +1,6 @@
 //! The deliver_sm of an attempt and of a receipt, as the ESME is to get it.
 
-ghost use Rattle.std.specs.Prelude.{◌≡◌, true, Some, option_map, IfOk};
+ghost use Rattle.std.specs.Prelude.{◌≡◌, true, None, Some, option_map, IfOk, Ok};
 ghost use Rattle.mc_model.specs.message.Chain.{taken_in};
 ghost use Rattle.mc_model.specs.message.Submission.{Submission};
 ghost use Rattle.pdu_codec.specs.Pdu.{octets_of};
@@ -25,8 +25,9 @@ pub(crate) fn delivery_octets(
     pushed: PushedOn,
     chain: &Chain,
 ) -> Result<Option<Vec<u8>>, AllocError>
-    ensures { IfOk result (λ octets. EndsInAttempt chain.now.decrees → (taken : Submission) → taken_in chain.now.decrees ≡ Some taken →
+    ensures octets { IfOk result (λ octets. EndsInAttempt chain.now.decrees → (taken : Submission) → taken_in chain.now.decrees ≡ Some taken →
         option_map (λ vec. vec.items) octets ≡ Some (octets_of (deliver_sm pushed.sequence pushed.knows_optional (delivered_message taken)))) }
+    ensures none { ¬ EndsInAttempt chain.now.decrees → result ≡ Ok None }
 {
     match deliver_pdu(alloc, chain, pushed.sequence) {
         Ok(pdu) => Ok(Some(encoded(alloc, fitted(alloc, pushed, pdu))?)),
@@ -42,8 +43,9 @@ pub(crate) fn receipt_octets(
     pushed: PushedOn,
     chain: &Chain,
 ) -> Result<Option<Vec<u8>>, AllocError>
-    ensures { IfOk result (λ octets. option_map (λ vec. vec.items) octets ≡
+    ensures octets { IfOk result (λ octets. option_map (λ vec. vec.items) octets ≡
         option_map (report_octets pushed.sequence pushed.knows_optional) (reported_on chain.now.id chain.now.decrees)) }
+    ensures none { reported_on chain.now.id chain.now.decrees ≡ None → result ≡ Ok None }
 {
     match receipt_pdu(alloc, chain, pushed.sequence) {
         Ok(pdu) => Ok(Some(encoded(alloc, fitted(alloc, pushed, pdu))?)),

@@ -1,6 +1,6 @@
 //! What was pushed and waits too long for its answer.
 
-ghost use Rattle.std.specs.Prelude.{◌≡◌, ◌++◌, filter, IfOk, OnOk};
+ghost use Rattle.std.specs.Prelude.{[], ◌≡◌, ◌++◌, filter, IfOk, IsOk, OnOk};
 ghost use Rattle.sessions.specs.Windows.{is_overdue};
 ghost use Rattle.esme_service.specs.Pushes.{overdue_in, timely_in};
 
@@ -15,7 +15,8 @@ pub(crate) fn overdue(
     sessions: &BTreeMap<u8, Session>,
     now: Moment,
 ) -> Result<Vec<Pushed>, AllocError>
-    ensures { IfOk result (λ overdue. overdue.items ≡ overdue_in sessions.now.entries now) }
+    ensures found { IfOk result (λ overdue. overdue.items ≡ overdue_in sessions.now.entries now) }
+    ensures none { overdue_in sessions.now.entries now ≡ [] → IsOk result }
 {
     let mut overdue = Vec::new(alloc);
     for (_number, session) in sessions {
@@ -26,7 +27,8 @@ pub(crate) fn overdue(
 
 /// Adds what of one session waits too long.
 fn add_overdue(overdue: &mut Vec<Pushed>, pushed: &[Pushed], now: Moment) -> Result<(), AllocError>
-    ensures { OnOk result (overdue.new.items ≡ overdue.old.items ++ filter (is_overdue now) pushed.now) }
+    ensures added { OnOk result (overdue.new.items ≡ overdue.old.items ++ filter (is_overdue now) pushed.now) }
+    ensures none { filter (is_overdue now) pushed.now ≡ [] → IsOk result }
 {
     for request in pushed {
         if request.is_overdue(now) {

@@ -1,6 +1,6 @@
 //! Over which session a deliver_sm goes.
 
-ghost use Rattle.std.specs.Prelude.{◌≡◌, IfOk};
+ghost use Rattle.std.specs.Prelude.{[], ◌≡◌, IfOk, IsOk};
 ghost use Rattle.std.specs.Option.{option_copied};
 ghost use Rattle.esme_service.specs.Pushes.{accounts_up, is_of, receiver_of, takes_for, target_in};
 ghost use Rattle.esme_service.specs.Pushing.{IsPushed};
@@ -22,7 +22,8 @@ pub(crate) fn accounts_up(
     alloc: Global,
     sessions: &BTreeMap<u8, Session>,
 ) -> Result<Vec<SystemId>, AllocError>
-    ensures { IfOk result (λ up. up.items ≡ accounts_up sessions.now.entries) }
+    ensures up { IfOk result (λ up. up.items ≡ accounts_up sessions.now.entries) }
+    ensures none { accounts_up sessions.now.entries ≡ [] → IsOk result }
 {
     let mut accounts = Vec::new(alloc);
     for number in FIRST_SESSION..=LAST_SESSION {
@@ -44,16 +45,17 @@ fn receiver_of(session: Option<&Session>) -> Option<&SystemId>
     session.account()
 }
 
-/// Pushes a deliver_sm over the session with the lowest number that takes it for this account.
+/// Pushes a deliver_sm over the session with the lowest number that takes it for this account. `long` tells that its text is an optional parameter.
 pub(crate) fn push(
     sessions: &mut BTreeMap<u8, Session>,
+    long: bool,
     target: &SystemId,
     now: Moment,
     delivery: Delivery,
 ) -> Option<PushedOn>
-    ensures { IsPushed sessions.old.entries target.now now delivery sessions.new.entries result }
+    ensures { IsPushed sessions.old.entries long target.now now delivery sessions.new.entries result }
 {
-    let number = target_in(sessions, target)?;
+    let number = target_in(sessions, long, target)?;
     let Some(session) = sessions.get_mut(&number) else {
         unreachable!();
     };
@@ -69,25 +71,27 @@ pub(crate) fn push(
 }
 
 /// The lowest number of a session that takes a deliver_sm for this account.
-fn target_in(sessions: &BTreeMap<u8, Session>, target: &SystemId) -> Option<u8>
-    ensures { result ≡ target_in sessions.now.entries target.now }
+fn target_in(sessions: &BTreeMap<u8, Session>, long: bool, target: &SystemId) -> Option<u8>
+    ensures { result ≡ target_in sessions.now.entries long target.now }
 {
     for number in FIRST_SESSION..=LAST_SESSION {
-        if takes_for(target, sessions.get(&number)) {
+        if takes_for(long, target, sessions.get(&number)) {
             return Some(number);
         }
     }
     None
 }
 
-/// Whether a session is of the account, may receive, and has room.
-fn takes_for(target: &SystemId, session: Option<&Session>) -> bool
-    ensures { result ≡ takes_for target.now (option_copied session.entry) }
+/// Whether a session is of the account, may receive, and has room; for a text that is an optional parameter it has to know these.
+fn takes_for(long: bool, target: &SystemId, session: Option<&Session>) -> bool
+    ensures { result ≡ takes_for long target.now (option_copied session.entry) }
 {
     let Some(session) = session else {
         return false;
     };
-    session.push_refusal().is_none() && is_of(target, session.account())
+    session.push_refusal().is_none()
+        && is_of(target, session.account())
+        && (!long || session.knows_optional())
 }
 
 /// Whether it is the account.

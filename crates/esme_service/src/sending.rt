@@ -1,6 +1,6 @@
 //! What goes out on a session by what the node gave out.
 
-ghost use Rattle.std.specs.Prelude.{◌≡◌, IfOk, option_map};
+ghost use Rattle.std.specs.Prelude.{◌≡◌, IfOk, None, Ok, option_map};
 
 use crate::delivering::{delivery_octets, receipt_octets};
 use crate::owner::Owner;
@@ -22,7 +22,7 @@ pub enum Sending {
 }
 
 impl Sending {
-    ghost use Rattle.esme_service.specs.Sendings.{AreOctetsOf, number_of};
+    ghost use Rattle.esme_service.specs.Sendings.{AreOctetsOf, HasNoPdu, number_of};
 
     /// The number of the session on which it goes out.
     pub fn number(&self) -> u8
@@ -35,9 +35,10 @@ impl Sending {
     }
 
     /// The octets of its PDU: none if it is an attempt whose chain ends in none, or a receipt whose chain has no fate or for which none
-    /// was asked. An `Err` is want of memory.
+    /// was asked; then it takes no memory. An `Err` is want of memory.
     pub fn octets(&self, alloc: Global) -> Result<Option<Vec<u8>>, AllocError>
-        ensures { IfOk result (λ octets. AreOctetsOf self.now (option_map (λ vec. vec.items) octets)) }
+        ensures octets { IfOk result (λ octets. AreOctetsOf self.now (option_map (λ vec. vec.items) octets)) }
+        ensures none { HasNoPdu self.now → result ≡ Ok None }
     {
         match self {
             Sending::Reply(owner, reply) => Ok(Some(reply_octets(alloc, owner.request, reply)?)),

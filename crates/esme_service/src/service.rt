@@ -225,32 +225,53 @@ impl Service {
         ensures { SendsNextReceipt self.old account.now now result self.new }
     {
         let id = self.waiting.first_for(account)?;
-        let pushed = receiving::push(&mut self.sessions, account, now, Delivery::Receipt(id))?;
+        let pushed = receiving::push(
+            &mut self.sessions,
+            false,
+            account,
+            now,
+            Delivery::Receipt(id),
+        )?;
         let Some(chain) = self.waiting.take_for(account) else {
             unreachable!();
         };
         Some(Sending::Receipt(pushed, chain))
     }
 
-    /// The attempt in a slot goes out at this moment, over the session with the lowest number that takes it for this account. None if no
-    /// session takes it; then nothing changes. It takes no memory.
-    pub fn push(&mut self, target: &SystemId, now: Moment, slot: Slot) -> Option<PushedOn>
-        ensures pushed { IsPushed self.old.sessions target.now now (Attempt slot) self.new.sessions result }
+    /// The attempt in a slot goes out at this moment, over the session with the lowest number that takes it for this account. `long` tells that
+    /// its text is too long for a short_message: a session that was bound with an interface_version below 0x34 does not take that (SMPP 3.4,
+    /// section 5.2.4). None if no session takes it; then nothing changes. It takes no memory.
+    pub fn push(
+        &mut self,
+        target: &SystemId,
+        long: bool,
+        now: Moment,
+        slot: Slot,
+    ) -> Option<PushedOn>
+        ensures pushed { IsPushed self.old.sessions long target.now now (Attempt slot) self.new.sessions result }
         ensures waiting { self.new.waiting ≡ self.old.waiting }
     {
-        receiving::push(&mut self.sessions, target, now, Delivery::Attempt(slot))
+        receiving::push(
+            &mut self.sessions,
+            long,
+            target,
+            now,
+            Delivery::Attempt(slot),
+        )
     }
 
-    /// The account of each session that may receive, by the numbers of the sessions.
+    /// The account of each session that may receive, by the numbers of the sessions. It takes no memory if there is none.
     pub fn accounts_up(&self) -> Result<Vec<SystemId>, AllocError>
-        ensures { IfOk result (λ up. up.items ≡ accounts_up self.now.sessions) }
+        ensures up { IfOk result (λ up. up.items ≡ accounts_up self.now.sessions) }
+        ensures none { accounts_up self.now.sessions ≡ [] → IsOk result }
     {
         receiving::accounts_up(self.waiting.allocator(), &self.sessions)
     }
 
-    /// What was pushed and waits 30 seconds or more at this moment, by session.
+    /// What was pushed and waits 30 seconds or more at this moment, by session. It takes no memory if there is nothing.
     pub fn overdue(&self, now: Moment) -> Result<Vec<Pushed>, AllocError>
-        ensures { IfOk result (λ overdue. overdue.items ≡ overdue_in self.now.sessions now) }
+        ensures found { IfOk result (λ overdue. overdue.items ≡ overdue_in self.now.sessions now) }
+        ensures none { overdue_in self.now.sessions now ≡ [] → IsOk result }
     {
         overdue::overdue(self.waiting.allocator(), &self.sessions, now)
     }

@@ -10,10 +10,10 @@ use Rattle.octet_fields.proofs.Octets.{ok_is}
 use Rattle.fate_chain.proofs.ChainReading.{chain_takes, chain_again}
 
 spells : (octets : List ℕ) (c : Chain) → IsOctets octets → read_chain octets ≡ Ok c → IsSpelled octets c
-spells octets c are e = let taken = chain_takes octets c are e in record { fits = taken.fits; spelled = taken.spelled }
+spells octets c are e = let taken = chain_takes octets c are e in record { fits = taken.fits; format = taken.format; spelled = taken.spelled }
 
 spelled : (octets : List ℕ) (c : Chain) → IsSpelled octets c → read_chain octets ≡ Ok c
-spelled octets c is = ap read_chain is.spelled ∙ chain_again c is.fits
+spelled octets c is = ap read_chain is.spelled ∙ chain_again is.format c is.fits
 
 same_read : (octets : List ℕ) (c d : Chain) → read_chain octets ≡ Ok c → read_chain octets ≡ Ok d → c ≡ d
 same_read octets c d e f = ok_is c d (sym e ∙ f)

@@ -9,82 +9,84 @@ use Rattle.octet_fields.specs.declared.defect.Defect.{Defect}
 use Rattle.octet_fields.specs.declared.defect.Defect.TheVariants.{Extra}
 use Rattle.octet_fields.specs.Reading.{◌>>=◌}
 use Rattle.fate_chain.specs.Bytes.{decree_at, decrees_at, chain_from, chain_at}
+use Rattle.fate_chain.specs.declared.format.Format.{Format}
 use Rattle.fate_chain.specs.Marks.{IsProgressOf}
 use Rattle.fate_chain.specs.declared.progress.Progress.{Progress}
 use Rattle.fate_chain.specs.declared.progress.Progress.TheVariants as progresses
 use Rattle.fate_chain.specs.declared.marks.Standing.{Standing}
 
--- Of so many decrees these are read, the newest first, and so many are left to be read from the rest.
-pub record IsSoFar (count : ℕ) (octets : List ℕ) (left : ℕ) (read : List Decree) (rest : List ℕ) : Type 0 where
-  pub whole : decrees_at count [] octets ≡ decrees_at left read rest
-  pub counted : length read + left ≡ count
-
-decrees_at-more : (left : ℕ) (read : List Decree) (rest : List ℕ) (x : Decree × List ℕ) → 0 < left → decree_at rest ≡ Ok x →
-    decrees_at left read rest ≡ decrees_at (left - 1) (x.0 ∷ read) x.1
-unfolding decrees_at
-decrees_at-more zero read rest x some is = absurd (omega arith)
-decrees_at-more (suc left) read rest x some is =
-    let one_less : left ≡ suc left - 1 = omega arith in
-    ap (λ (o : Result (Decree × List ℕ) Defect). o >>= λ y. decrees_at left (y.0 ∷ read) y.1) is ∙ ap (λ (n : ℕ). decrees_at n (x.0 ∷ read) x.1) one_less
-
-decrees_at-err : (left : ℕ) (read : List Decree) (rest : List ℕ) (defect : Defect) → 0 < left → decree_at rest ≡ Err defect →
-    decrees_at left read rest ≡ Err defect
-unfolding decrees_at
-decrees_at-err zero read rest defect some is = absurd (omega arith)
-decrees_at-err (suc left) read rest defect some is =
-    ap (λ (o : Result (Decree × List ℕ) Defect). o >>= λ y. decrees_at left (y.0 ∷ read) y.1) is
-
-decrees_at-end : (left : ℕ) (read : List Decree) (rest : List ℕ) → left ≤ 0 → decrees_at left read rest ≡ Ok (read, rest)
-unfolding decrees_at
-decrees_at-end zero read rest none = refl
-decrees_at-end (suc left) read rest none = absurd (omega arith)
-
-pub so-far-more : (count : ℕ) (octets : List ℕ) (left : ℕ) (read : List Decree) (rest : List ℕ) (x : Decree × List ℕ) →
-    IsSoFar count octets left read rest → 0 < left → decree_at rest ≡ Ok x →
-    IsSoFar count octets (left - 1) (x.0 ∷ read) x.1
-so-far-more count octets left read rest x so_far some is = record {
-  whole = so_far.whole ∙ decrees_at-more left read rest x some is;
-  counted = omega (arith, so_far.counted);
-}
-
-pub so-far-err : (count : ℕ) (octets : List ℕ) (left : ℕ) (read : List Decree) (rest : List ℕ) (defect : Defect) →
-    IsSoFar count octets left read rest → 0 < left → decree_at rest ≡ Err defect →
-    decrees_at count [] octets ≡ Err defect
-so-far-err count octets left read rest defect so_far some is = so_far.whole ∙ decrees_at-err left read rest defect some is
-
-pub so-far-all : (count : ℕ) (octets : List ℕ) (left : ℕ) (read : List Decree) (rest : List ℕ) → IsSoFar count octets left read rest →
-    left ≤ 0 →
-    decrees_at count [] octets ≡ Ok (read, rest)
-so-far-all count octets left read rest so_far none = so_far.whole ∙ decrees_at-end left read rest none
-
 pub ok-not-err : {A : Type 0} (r : Result A Defect) (defect : Defect) → IsOk r → r ≡ Err defect → ⊥
 ok-not-err r defect ok is = false≢true (sym (ap is_ok is) ∙ ok)
-
--- ---- with how far they have come towards a permitted chain
-
-pub record IsChecked (id count : ℕ) (octets : List ℕ) (left : ℕ) (rest : List ℕ) (progress : Progress) : Type 0 where
-  pub read : List Decree
-  pub so_far : IsSoFar count octets left read rest
-  pub comes : IsProgressOf id read progress
-
-pub chain_at-err : (id count : ℕ) (octets : List ℕ) (defect : Defect) → decrees_at count [] octets ≡ Err defect → chain_at id count octets ≡ Err defect
-chain_at-err id count octets defect is = ap (λ (o : Result (List Decree × List ℕ) Defect). o >>= λ d. chain_from id d) is
 
 chain_from-more : (id : ℕ) (read : List Decree) (rest : List ℕ) → (rest ≡ [] → ⊥) → chain_from id (read, rest) ≡ Err Extra
 chain_from-more id read [] more = absurd (more refl)
 chain_from-more id read (o ∷ octets) more = refl
 
-pub chain_at-more : (id count : ℕ) (octets : List ℕ) (read : List Decree) (rest : List ℕ) → decrees_at count [] octets ≡ Ok (read, rest) →
-    (rest ≡ [] → ⊥) →
-    chain_at id count octets ≡ Err Extra
-chain_at-more id count octets read rest is more =
-    ap (λ (o : Result (List Decree × List ℕ) Defect). o >>= λ d. chain_from id d) is ∙ chain_from-more id read rest more
+module _ (format : Format) where
+  -- Of so many decrees these are read, the newest first, and so many are left to be read from the rest.
+  pub record IsSoFar (count : ℕ) (octets : List ℕ) (left : ℕ) (read : List Decree) (rest : List ℕ) : Type 0 where
+    pub whole : decrees_at format count [] octets ≡ decrees_at format left read rest
+    pub counted : length read + left ≡ count
 
-pub chain_at-all : (id count : ℕ) (octets : List ℕ) (read : List Decree) (rest : List ℕ) → decrees_at count [] octets ≡ Ok (read, rest) →
-    rest ≡ [] →
-    chain_at id count octets ≡ Ok (record { id = id; decrees = read })
-chain_at-all id count octets read rest is none =
-    ap (λ (o : Result (List Decree × List ℕ) Defect). o >>= λ d. chain_from id d) is ∙ ap (λ (r : List ℕ). chain_from id (read, r)) none
+  decrees_at-more : (left : ℕ) (read : List Decree) (rest : List ℕ) (x : Decree × List ℕ) → 0 < left → decree_at format rest ≡ Ok x →
+      decrees_at format left read rest ≡ decrees_at format (left - 1) (x.0 ∷ read) x.1
+  unfolding decrees_at
+  decrees_at-more zero read rest x some is = absurd (omega arith)
+  decrees_at-more (suc left) read rest x some is =
+      let one_less : left ≡ suc left - 1 = omega arith in
+      ap (λ (o : Result (Decree × List ℕ) Defect). o >>= λ y. decrees_at format left (y.0 ∷ read) y.1) is ∙ ap (λ (n : ℕ). decrees_at format n (x.0 ∷ read) x.1) one_less
+
+  decrees_at-err : (left : ℕ) (read : List Decree) (rest : List ℕ) (defect : Defect) → 0 < left → decree_at format rest ≡ Err defect →
+      decrees_at format left read rest ≡ Err defect
+  unfolding decrees_at
+  decrees_at-err zero read rest defect some is = absurd (omega arith)
+  decrees_at-err (suc left) read rest defect some is =
+      ap (λ (o : Result (Decree × List ℕ) Defect). o >>= λ y. decrees_at format left (y.0 ∷ read) y.1) is
+
+  decrees_at-end : (left : ℕ) (read : List Decree) (rest : List ℕ) → left ≤ 0 → decrees_at format left read rest ≡ Ok (read, rest)
+  unfolding decrees_at
+  decrees_at-end zero read rest none = refl
+  decrees_at-end (suc left) read rest none = absurd (omega arith)
+
+  pub so-far-more : (count : ℕ) (octets : List ℕ) (left : ℕ) (read : List Decree) (rest : List ℕ) (x : Decree × List ℕ) →
+      IsSoFar count octets left read rest → 0 < left → decree_at format rest ≡ Ok x →
+      IsSoFar count octets (left - 1) (x.0 ∷ read) x.1
+  so-far-more count octets left read rest x so_far some is = record {
+    whole = so_far.whole ∙ decrees_at-more left read rest x some is;
+    counted = omega (arith, so_far.counted);
+  }
+
+  pub so-far-err : (count : ℕ) (octets : List ℕ) (left : ℕ) (read : List Decree) (rest : List ℕ) (defect : Defect) →
+      IsSoFar count octets left read rest → 0 < left → decree_at format rest ≡ Err defect →
+      decrees_at format count [] octets ≡ Err defect
+  so-far-err count octets left read rest defect so_far some is = so_far.whole ∙ decrees_at-err left read rest defect some is
+
+  pub so-far-all : (count : ℕ) (octets : List ℕ) (left : ℕ) (read : List Decree) (rest : List ℕ) → IsSoFar count octets left read rest →
+      left ≤ 0 →
+      decrees_at format count [] octets ≡ Ok (read, rest)
+  so-far-all count octets left read rest so_far none = so_far.whole ∙ decrees_at-end left read rest none
+
+  -- ---- with how far they have come towards a permitted chain
+
+  pub record IsChecked (id count : ℕ) (octets : List ℕ) (left : ℕ) (rest : List ℕ) (progress : Progress) : Type 0 where
+    pub read : List Decree
+    pub so_far : IsSoFar count octets left read rest
+    pub comes : IsProgressOf id read progress
+
+  pub chain_at-err : (id count : ℕ) (octets : List ℕ) (defect : Defect) → decrees_at format count [] octets ≡ Err defect → chain_at format id count octets ≡ Err defect
+  chain_at-err id count octets defect is = ap (λ (o : Result (List Decree × List ℕ) Defect). o >>= λ d. chain_from id d) is
+
+  pub chain_at-more : (id count : ℕ) (octets : List ℕ) (read : List Decree) (rest : List ℕ) → decrees_at format count [] octets ≡ Ok (read, rest) →
+      (rest ≡ [] → ⊥) →
+      chain_at format id count octets ≡ Err Extra
+  chain_at-more id count octets read rest is more =
+      ap (λ (o : Result (List Decree × List ℕ) Defect). o >>= λ d. chain_from id d) is ∙ chain_from-more id read rest more
+
+  pub chain_at-all : (id count : ℕ) (octets : List ℕ) (read : List Decree) (rest : List ℕ) → decrees_at format count [] octets ≡ Ok (read, rest) →
+      rest ≡ [] →
+      chain_at format id count octets ≡ Ok (record { id = id; decrees = read })
+  chain_at-all id count octets read rest is none =
+      ap (λ (o : Result (List Decree × List ℕ) Defect). o >>= λ d. chain_from id d) is ∙ ap (λ (r : List ℕ). chain_from id (read, r)) none
 
 -- what is neither nothing nor a failure is permitted, and nothing else
 pub progress-stands : (id : ℕ) (read : List Decree) (progress : Progress) (standing : Standing) → IsProgressOf id read progress →

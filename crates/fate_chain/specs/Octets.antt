@@ -1,11 +1,13 @@
 -- What is seen in a decree as it stands in octets, and that its texts are some.
-use Rattle.std.specs.Prelude.{IsTrue}
+use Rattle.std.specs.Prelude.{IsTrue, ◌≤◌, length}
 use Rattle.mc_model.specs.message.Submission.{Submission}
 use Rattle.mc_model.specs.message.Decree.{Kind, Taken, Attempt, Failed, Fate, Decree}
-use Rattle.pdu_codec.specs.Text.{IsText, IsShortMessage}
+use Rattle.pdu_codec.specs.Text.{IsText}
 use Rattle.octet_fields.specs.Kinds.{Contents}
 use Rattle.fate_chain.specs.Bytes.{is_optional, party_fields, handling_fields, text_fields, message_of}
+use Rattle.fate_chain.specs.Content.{has_room, most_text}
 use Rattle.fate_chain.specs.Kinds.{author_of, final_of}
+use Rattle.fate_chain.specs.declared.format.Format.TheVariants.{Second}
 use Rattle.fate_chain.specs.declared.octets.Parties.{Parties}
 use Rattle.fate_chain.specs.declared.octets.Handling.{Handling}
 use Rattle.fate_chain.specs.declared.octets.Texts.{Texts}
@@ -22,7 +24,7 @@ abbrev pub handling_seen : Handling → Contents handling_fields
 handling_seen h =
     (h.esm_class, (h.protocol_id, (h.priority_flag, (h.registered_delivery, (h.data_coding, (h.schedule, (h.expiry, tt)))))))
 
-abbrev pub texts_seen : Texts → Contents text_fields
+abbrev pub texts_seen : Texts → Contents (text_fields Second)
 texts_seen t = (t.text.now, (t.passed.now, tt))
 
 abbrev pub message_seen : MessageOctets → Submission
@@ -46,7 +48,8 @@ pub record PartiesAreTexts (p : Parties) : Type 0 where
   pub destination : IsText 21 p.destination.digits.now
 
 pub record AreTexts (t : Texts) : Type 0 where
-  pub text : IsShortMessage t.text.now
+  pub text : length t.text.now ≤ most_text
+  pub beside : IsTrue (has_room t.text.now t.passed.now)
   pub passed : IsTrue (is_optional t.passed.now)
 
 pub record MessageHasTexts (m : MessageOctets) : Type 0 where

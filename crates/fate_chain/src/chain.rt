@@ -9,6 +9,7 @@ ghost use Rattle.fate_chain.specs.Bytes.{chain_octets, read_chain, Fits, IsSpell
 ghost use Rattle.fate_chain.specs.Kinds.{final_of};
 ghost use Rattle.fate_chain.specs.Marks.{IsStandingOf};
 ghost use Rattle.fate_chain.specs.States.{state_of};
+ghost use Rattle.fate_chain.specs.declared.format.Format.TheVariants.{Second};
 ghost use Rattle.fate_chain.specs.declared.fault.ChainFault.TheVariants.{NotPermitted, NotBytes, Memory};
 
 use crate::decree::{Author, Decree, Final, Kind, are_same};
@@ -219,10 +220,10 @@ impl Chain {
         self.id == other.id && are_same(self.decrees.list(), other.decrees.list())
     }
 
-    /// Its octets, format 1. Each number has its highest octet first.
+    /// Its octets, format 2. Each number has its highest octet first.
     pub fn bytes(&self) -> Result<Vec<u8>, AllocError>
         ensures octets { IfOk result (λ octets. octets.items ≡ chain_octets self.now) }
-        ensures fits { IfOk result (λ _. Fits self.now) }
+        ensures fits { IfOk result (λ _. Fits Second self.now) }
     {
         let decrees = self.decrees.list();
         let mut octets = Vec::new(self.decrees.alloc());
@@ -231,8 +232,8 @@ impl Chain {
         Ok(octets)
     }
 
-    /// The chain whose octets these are. NotBytes if they are not the octets of an id and of decrees, from the
-    /// first octet to the last; NotPermitted if they are, and the decrees are no permitted chain. Memory is taken
+    /// The chain whose octets these are, in format 2 or in format 1, which earlier programs wrote. NotBytes if they are not the octets of an id
+    /// and of decrees, from the first octet to the last; NotPermitted if they are, and the decrees are no permitted chain. Memory is taken
     /// once they are found to be a chain's.
     pub fn read(alloc: Global, octets: &[u8]) -> Result<Chain, ChainFault>
         // What is read is spelled so.
@@ -259,8 +260,8 @@ impl Chain {
         let Ok(head) = head_at(octets) else {
             return Err(ChainFault::NotBytes);
         };
-        check(head.id, head.count, head.decrees)?;
-        let decrees = decrees_of(alloc, head.count, head.decrees)?;
+        check(&head)?;
+        let decrees = decrees_of(alloc, &head)?;
         Ok(Chain {
             id: head.id,
             decrees: SharedDecrees::make(decrees)?,

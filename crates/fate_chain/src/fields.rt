@@ -1,29 +1,31 @@
 //! The fields of chains at the front of octets, each with the octets after it. Nothing here takes memory.
 
-ghost use Rattle.std.specs.Prelude.{◌≡◌, ◌↔◌, IsTrue, IfOk};
-ghost use Rattle.pdu_codec.specs.Text.{IsText, IsShortMessage};
+ghost use Rattle.std.specs.Prelude.{◌≡◌, ◌≤◌, ◌↔◌, IsTrue, IfOk, length};
+ghost use Rattle.pdu_codec.specs.Text.{IsText};
+ghost use Rattle.fate_chain.specs.Content.{most_text};
 ghost use Rattle.octet_fields.specs.Kinds.{Number, One, Two, Four, Eight, is_between, is_text};
 ghost use Rattle.octet_fields.specs.Reading.{IsRead, content_at};
 ghost use Rattle.mc_types.specs.Texts.{is_id};
 ghost use Rattle.fate_chain.specs.Bytes as bytes;
 
 use crate::decree::ErrorCode;
+use crate::format::Format;
 use mc_types::{Incarnation, Moment, MsgId, NodeNo};
 use octet_fields::{Defect, counted_at, long_counted_at, octet_at, u16_at, u32_at, u64_at};
 use pdu_codec::check_optional;
 
-/// The number of the format, 1.
+/// A format, by its number.
 #[tactic(auto, unfolding(octet_fields::specs::Reading::content_at))]
-pub fn format_at(octets: &[u8]) -> Result<(u8, &[u8]), Defect>
-    ensures read { IsRead (λ x. (x.0, x.1.now)) result
-        (content_at (Number One (is_between 1 1)) octets.now) }
-    ensures one { IfOk result (λ x. x.0 ≡ 1) }
+pub fn format_at(octets: &[u8]) -> Result<(Format, &[u8]), Defect>
+    ensures { IsRead (λ x. (bytes.format_number x.0, x.1.now)) result
+        (content_at (Number One (is_between 1 2)) octets.now) }
 {
-    let (format, rest) = octet_at(octets)?;
-    if format != 1 {
-        return Err(Defect::Unfit);
+    let (number, rest) = octet_at(octets)?;
+    match number {
+        1 => Ok((Format::First, rest)),
+        2 => Ok((Format::Second, rest)),
+        _ => Err(Defect::Unfit),
     }
-    Ok((format, rest))
 }
 
 /// The number of a kind of decree, 1 to 4.
@@ -123,6 +125,19 @@ pub fn text_at(limit: usize, octets: &[u8]) -> Result<(&[u8], &[u8]), Defect>
         return Err(Defect::Unfit);
     }
     Ok((text, rest))
+}
+
+/// The text of a message, after the number of its octets, which has one octet or two.
+#[tactic(auto, unfolding(octet_fields::specs::Reading::content_at))]
+pub fn message_text_at(format: Format, octets: &[u8]) -> Result<(&[u8], &[u8]), Defect>
+    ensures read { IsRead (λ x. (x.0.now, x.1.now)) result
+        (content_at (bytes.message_text format).kind octets.now) }
+    ensures most { IfOk result (λ x. length x.0.now ≤ most_text) }
+{
+    match format {
+        Format::First => counted_at(254, octets),
+        Format::Second => long_counted_at(4096, octets),
+    }
 }
 
 /// Whether the octets are optional parameters.

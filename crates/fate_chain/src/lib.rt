@@ -2,9 +2,11 @@
 #![tactic(auto)]
 
 mod chain;
+mod content;
 mod decree;
 mod fault;
 mod fields;
+mod format;
 mod laws;
 mod marks;
 mod octets;
@@ -16,6 +18,7 @@ mod submission;
 mod writing;
 
 pub use chain::Chain;
+pub use content::Content;
 pub use decree::{Author, Decree, ErrorCode, Final, Kind};
 pub use fault::ChainFault;
 pub use laws::octets_are_of_one_chain;

@@ -1,23 +1,25 @@
 //! Decrees as they stand in octets. Only what makes a decree of one takes memory.
 
 ghost use Rattle.std.specs.Prelude.{◌≡◌, IfOk};
-ghost use Rattle.fate_chain.specs.Bytes.{party_fields, handling_fields, text_fields, message_at, kind_at, decree_at};
+ghost use Rattle.fate_chain.specs.Bytes.{party_fields, handling_fields, texts_at, message_at, kind_at, decree_at};
 ghost use Rattle.octet_fields.specs.Reading.{IsRead, front_at};
 ghost use Rattle.fate_chain.specs.Kinds.{kind_of};
 ghost use Rattle.fate_chain.specs.Marks.{bare, bare_kind, IsMarkOf};
 ghost use Rattle.fate_chain.specs.Octets.{parties_seen, handling_seen, texts_seen, message_seen, kind_seen, decree_seen, PartiesAreTexts};
 ghost use Rattle.fate_chain.specs.Octets.{AreTexts, MessageHasTexts, HasTexts};
 
+use crate::content::{Content, has_room};
 use crate::decree::{Author, Decree, ErrorCode, Final, Kind};
 use crate::fields::{
-    error_at, incarnation_at, kind_at, moment_at, node_at, parameters_at, text_at,
+    error_at, incarnation_at, kind_at, message_text_at, moment_at, node_at, parameters_at, text_at,
 };
+use crate::format::Format;
 use crate::marks::{Act, Mark, Term};
 use crate::shared_submission::SharedSubmission;
 use crate::submission::Submission;
 use mc_types::Moment;
-use octet_fields::{Defect, counted_at, octet_at};
-use pdu_codec::{AddressOctets, ShortMessage, Text, Tlvs};
+use octet_fields::{Defect, octet_at};
+use pdu_codec::{AddressOctets, Text};
 use std::alloc::{AllocError, Global};
 
 /// What was read, or its defect for the caller. The proof of `?` does not cover a value that holds one with an invariant.
@@ -137,23 +139,26 @@ fn handling_at(octets: &[u8]) -> Result<(Handling, &[u8]), Defect>
     Ok((handling, rest))
 }
 
-fn texts_at(octets: &[u8]) -> Result<(Texts<'_>, &[u8]), Defect>
-    ensures read { IsRead (λ x. (texts_seen x.0, x.1.now)) result (front_at text_fields octets.now) }
+fn texts_at(format: Format, octets: &[u8]) -> Result<(Texts<'_>, &[u8]), Defect>
+    ensures read { IsRead (λ x. (texts_seen x.0, x.1.now)) result (texts_at format octets.now) }
     ensures texts { IfOk result (λ x. AreTexts x.0) }
 {
-    let (text, rest) = counted_at(254, octets)?;
+    let (text, rest) = message_text_at(format, octets)?;
     let (passed, rest) = parameters_at(rest)?;
+    if !has_room(text, passed) {
+        return Err(Defect::Unfit);
+    }
     Ok((Texts { text, passed }, rest))
 }
 
 #[tactic(auto, unfolding(crate::specs::Bytes::message_at))]
-fn message_at(octets: &[u8]) -> Result<(MessageOctets<'_>, &[u8]), Defect>
-    ensures read { IsRead (λ x. (message_seen x.0, x.1.now)) result (message_at octets.now) }
+fn message_at(format: Format, octets: &[u8]) -> Result<(MessageOctets<'_>, &[u8]), Defect>
+    ensures read { IsRead (λ x. (message_seen x.0, x.1.now)) result (message_at format octets.now) }
     ensures texts { IfOk result (λ x. MessageHasTexts x.0) }
 {
     let (parties, rest) = parties_at(octets)?;
     let (handling, rest) = read!(handling_at(rest));
-    let (texts, rest) = texts_at(rest)?;
+    let (texts, rest) = texts_at(format, rest)?;
     let message = MessageOctets {
         parties,
         handling,
@@ -164,13 +169,13 @@ fn message_at(octets: &[u8]) -> Result<(MessageOctets<'_>, &[u8]), Defect>
 
 /// What a decree of a kind of this number decides.
 #[tactic(auto, unfolding(crate::specs::Bytes::kind_at))]
-fn decided_at(kind: u8, octets: &[u8]) -> Result<(KindOctets<'_>, &[u8]), Defect>
-    ensures read { IsRead (λ x. (kind_seen x.0, x.1.now)) result (kind_at kind octets.now) }
+fn decided_at(format: Format, kind: u8, octets: &[u8]) -> Result<(KindOctets<'_>, &[u8]), Defect>
+    ensures read { IsRead (λ x. (kind_seen x.0, x.1.now)) result (kind_at format kind octets.now) }
     ensures texts { IfOk result (λ x. HasTexts x.0) }
 {
     match kind {
         1 => {
-            let (message, rest) = read!(message_at(octets));
+            let (message, rest) = read!(message_at(format, octets));
             Ok((KindOctets::Taken(message), rest))
         }
         2 => {
@@ -194,15 +199,15 @@ fn decided_at(kind: u8, octets: &[u8]) -> Result<(KindOctets<'_>, &[u8]), Defect
 
 /// A decree at the front of octets, and the octets after it; none if there is none.
 #[tactic(auto, unfolding(crate::specs::Bytes::decree_at))]
-pub fn decree_at(octets: &[u8]) -> Result<(DecreeOctets<'_>, &[u8]), Defect>
-    ensures read { IsRead (λ x. (decree_seen x.0, x.1.now)) result (decree_at octets.now) }
+pub fn decree_at(format: Format, octets: &[u8]) -> Result<(DecreeOctets<'_>, &[u8]), Defect>
+    ensures read { IsRead (λ x. (decree_seen x.0, x.1.now)) result (decree_at format octets.now) }
     ensures texts { IfOk result (λ x. HasTexts x.0.kind) }
 {
     let (kind, rest) = kind_at(octets)?;
     let (node, rest) = read!(node_at(rest));
     let (incarnation, rest) = read!(incarnation_at(rest));
     let (moment, rest) = read!(moment_at(rest));
-    let (kind, rest) = read!(decided_at(kind, rest));
+    let (kind, rest) = read!(decided_at(format, kind, rest));
     let decree = DecreeOctets {
         author: Author { node, incarnation },
         moment,
@@ -233,8 +238,7 @@ impl MessageOctets<'_> {
             data_coding: handling.data_coding,
             schedule: handling.schedule,
             expiry: handling.expiry,
-            text: ShortMessage::of(alloc, self.texts.text)?,
-            passed: Tlvs::of(alloc, self.texts.passed)?,
+            content: Content::read(alloc, self.texts.text, self.texts.passed)?,
         })
     }
 }

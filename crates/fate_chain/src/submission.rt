@@ -6,10 +6,11 @@ ghost use Rattle.fate_chain.specs.Kinds.{final_of};
 ghost use Rattle.fate_chain.specs.Submissions.{address_of};
 ghost use Rattle.fate_chain.specs.Same.{SameHandling, SameParties};
 
+use crate::content::Content;
 use crate::decree::Final;
 use crate::marks::Term;
 use mc_types::Moment;
-use pdu_codec::{Address, ServiceType, ShortMessage, SystemId, Tlvs};
+use pdu_codec::{Address, ServiceType, SystemId, Tlvs};
 use std::marker::Model;
 
 /// What a submit_sm asked for, as it was taken (SMPP 3.4, section 4.4.1).
@@ -31,9 +32,8 @@ pub struct Submission {
     pub schedule: Moment,
     /// The moment from which it is no longer tried.
     pub expiry: Moment,
-    pub text: ShortMessage,
-    /// The optional parameters that are passed on, in their order.
-    pub passed: Tlvs,
+    /// Its text, and the optional parameters that are passed on.
+    pub content: Content,
 }
 
 impl Model for Submission {
@@ -55,8 +55,8 @@ impl Model for Submission {
       data_coding = s.data_coding;
       schedule = s.schedule;
       expiry = s.expiry;
-      text = s.text;
-      passed = s.passed;
+      text = s.content.text;
+      passed = s.content.passed;
     } };
 }
 
@@ -89,8 +89,8 @@ impl Submission {
     {
         self.has_parties_of(other)
             && self.is_handled_as(other)
-            && self.text.octets() == other.text.octets()
-            && are_same(&self.passed, &other.passed)
+            && self.content.text() == other.content.text()
+            && are_same(self.content.passed(), other.content.passed())
     }
 
     /// Whether its accounts, its service_type and its addresses are those of the other.

@@ -2,19 +2,22 @@
 
 ghost use Rattle.std.specs.Prelude.{◌≡◌, ◌<◌, ◌≤◌, ◌++◌, ◌∷◌, [], length, reverse, IfOk, OnOk};
 ghost use Rattle.std.specs.Int.{w16, w32, w64, to_be_bytes};
-ghost use Rattle.pdu_codec.specs.Text.{IsText, IsShortMessage, AreOptional, optional_octets};
+ghost use Rattle.pdu_codec.specs.Text.{IsText, AreOptional, optional_octets};
 ghost use Rattle.fate_chain.specs.Bytes.{party_fields, parties_in, handling_fields, handling_in, text_fields, texts_in, head_fields};
 ghost use Rattle.fate_chain.specs.Bytes.{chain_fields, kind_code, kind_octets, submission_octets, decree_octets, decrees_octets};
 ghost use Rattle.fate_chain.specs.Bytes.{DecreeFits, DecreesFit, KindFits, MessageFits};
 ghost use Rattle.octet_fields.specs.Kinds.{spellings, AreWithin};
+ghost use Rattle.fate_chain.specs.Content.{IsContent};
 ghost use Rattle.fate_chain.specs.Kinds.{author_of, kind_of};
+ghost use Rattle.fate_chain.specs.declared.format.Format.TheVariants.{Second};
 ghost use Rattle.mc_model.specs.message.Ids.{IsId, IsIncarnation, IsMoment, IsNode};
 
 use crate::decree::{Author, Decree, Kind};
+use crate::format::Format;
 use crate::submission::Submission;
 use mc_types::{Moment, MsgId};
 use octet_fields::{put_counted, put_long_counted, put_octets};
-use pdu_codec::{Address, ShortMessage, Text, Tlvs};
+use pdu_codec::{Address, Text, Tlvs};
 use std::alloc::AllocError;
 
 /// A text after the number of its octets.
@@ -24,14 +27,6 @@ fn put_text<const LIMIT: usize>(out: &mut Vec<u8>, text: &Text<LIMIT>) -> Result
     ensures text { IsText LIMIT text.now }
 {
     put_counted(out, text.octets())
-}
-
-/// A short_message after the number of its octets.
-fn put_short_message(out: &mut Vec<u8>, message: &ShortMessage) -> Result<(), AllocError>
-    ensures ok { OnOk result (out.new.items ≡ out.old.items ++ (length message.now ∷ message.now)) }
-    ensures short { IsShortMessage message.now }
-{
-    put_counted(out, message.octets())
 }
 
 /// Optional parameters after the number of their octets.
@@ -98,18 +93,18 @@ fn put_handling(out: &mut Vec<u8>, message: &Submission) -> Result<(), AllocErro
 
 fn put_texts(out: &mut Vec<u8>, message: &Submission) -> Result<(), AllocError>
     ensures ok { OnOk result (out.new.items
-        ≡ out.old.items ++ spellings text_fields (texts_in message.now)) }
-    ensures short { OnOk result (IsShortMessage message.now.text) }
+        ≡ out.old.items ++ spellings (text_fields Second) (texts_in Second message.now)) }
+    ensures content { OnOk result (IsContent message.now.text message.now.passed) }
     ensures passed { OnOk result (AreOptional message.now.passed) }
 {
-    put_short_message(out, &message.text)?;
-    put_optional(out, &message.passed)?;
+    put_long_counted(out, message.content.text())?;
+    put_optional(out, message.content.passed())?;
     Ok(())
 }
 
 fn put_message(out: &mut Vec<u8>, message: &Submission) -> Result<(), AllocError>
-    ensures ok { OnOk result (out.new.items ≡ out.old.items ++ submission_octets message.now) }
-    ensures fits { OnOk result (MessageFits message.now) }
+    ensures ok { OnOk result (out.new.items ≡ out.old.items ++ submission_octets Second message.now) }
+    ensures fits { OnOk result (MessageFits Second message.now) }
 {
     put_parties(out, message)?;
     put_handling(out, message)?;
@@ -119,8 +114,8 @@ fn put_message(out: &mut Vec<u8>, message: &Submission) -> Result<(), AllocError
 
 /// What a decree decides, without the number of its kind.
 fn put_kind(out: &mut Vec<u8>, kind: &Kind) -> Result<(), AllocError>
-    ensures ok { OnOk result (out.new.items ≡ out.old.items ++ kind_octets (kind_of kind.now)) }
-    ensures fits { OnOk result (KindFits (kind_of kind.now)) }
+    ensures ok { OnOk result (out.new.items ≡ out.old.items ++ kind_octets Second (kind_of kind.now)) }
+    ensures fits { OnOk result (KindFits Second (kind_of kind.now)) }
 {
     match kind {
         Kind::Taken(message) => put_message(out, message.submission()),
@@ -161,8 +156,8 @@ fn put_head(out: &mut Vec<u8>, kind: u8, author: Author, moment: Moment) -> Resu
 
 #[tactic(auto, unfolding(crate::specs::Bytes::decree_octets))]
 fn put_decree(out: &mut Vec<u8>, decree: &Decree) -> Result<(), AllocError>
-    ensures ok { OnOk result (out.new.items ≡ out.old.items ++ decree_octets decree.now) }
-    ensures fits { OnOk result (DecreeFits decree.now) }
+    ensures ok { OnOk result (out.new.items ≡ out.old.items ++ decree_octets Second decree.now) }
+    ensures fits { OnOk result (DecreeFits Second decree.now) }
 {
     put_head(out, code_of(&decree.kind), decree.author, decree.moment)?;
     put_kind(out, &decree.kind)?;
@@ -171,8 +166,8 @@ fn put_decree(out: &mut Vec<u8>, decree: &Decree) -> Result<(), AllocError>
 
 /// Decrees, the oldest first.
 pub fn put_decrees(out: &mut Vec<u8>, decrees: &[Decree]) -> Result<(), AllocError>
-    ensures ok { OnOk result (out.new.items ≡ out.old.items ++ decrees_octets (reverse decrees.now)) }
-    ensures fit { OnOk result (DecreesFit (reverse decrees.now)) }
+    ensures ok { OnOk result (out.new.items ≡ out.old.items ++ decrees_octets Second (reverse decrees.now)) }
+    ensures fit { OnOk result (DecreesFit Second (reverse decrees.now)) }
 {
     for decree in decrees {
         put_decree(out, decree)?;
@@ -182,16 +177,16 @@ pub fn put_decrees(out: &mut Vec<u8>, decrees: &[Decree]) -> Result<(), AllocErr
 
 /// The number of the format, and an id.
 fn put_id(out: &mut Vec<u8>, id: MsgId) -> Result<(), AllocError>
-    ensures ok { OnOk result (out.new.items ≡ out.old.items ++ (1 ∷ to_be_bytes w64 id)) }
+    ensures ok { OnOk result (out.new.items ≡ out.old.items ++ (2 ∷ to_be_bytes w64 id)) }
     ensures id { IsId id }
 {
-    put_octets(out, &[1])?;
+    put_octets(out, &[Format::Second.number()])?;
     put_octets(out, &id.number().to_be_bytes())
 }
 
 /// The number of the format, an id, and how many decrees there are.
 pub fn put_chain_head(out: &mut Vec<u8>, id: MsgId, count: u16) -> Result<(), AllocError>
-    ensures ok { OnOk result (out.new.items ≡ out.old.items ++ spellings chain_fields (1, (id, (count, tt)))) }
+    ensures ok { OnOk result (out.new.items ≡ out.old.items ++ spellings chain_fields (2, (id, (count, tt)))) }
     ensures id { OnOk result (IsId id) }
 {
     put_id(out, id)?;

@@ -112,6 +112,12 @@ fn lengths(rt: &impl Abort, alloc: Global) -> [Option<usize>; 3] {
 }
 
 #[test]
+fn the_octets_of_a_short_message_are_kept(rt: HostRuntime) {
+    let octets = message(&rt, rt.alloc(), b"Hi").into_octets();
+    assert_same(&rt, &octets.as_slice(), &b"Hi".as_slice());
+}
+
+#[test]
 fn short_messages(rt: HostRuntime) {
     let alloc = rt.alloc();
     assert_same(&rt, &messages(&rt, alloc), &[true; 3]);
@@ -168,6 +174,41 @@ fn parameters(rt: HostRuntime) {
     for (tags, octets) in TAGGED {
         assert_tagged(&rt, &copied, tags, octets);
     }
+}
+
+/// One parameter with the three after it.
+fn four(rt: &impl Abort, alloc: Global) -> Tlvs {
+    let others = three(rt, alloc);
+    let mut tlvs = of_one(rt, alloc, 0x020c, 9);
+    assert!(rt; tlvs.octets().len() <= 3000 && others.octets().len() <= 4000);
+    tlvs.extend(&others).expect(rt, "memory");
+    drop(others);
+    tlvs
+}
+
+#[test]
+fn parameters_go_behind_others(rt: HostRuntime) {
+    let four = four(&rt, rt.alloc());
+    let octets = four.octets();
+    let (first, others) = (octets.get(..6), octets.get(6..));
+    assert_same(&rt, &first, &Some(b"\x02\x0c\x00\x02\x00\x09".as_slice()));
+    assert_same(&rt, &others, &Some(THREE));
+}
+
+/// A copy of the first value of a tag, as it outlives the parameters.
+fn value_copied(rt: &impl Abort, alloc: Global, tag: u16) -> Option<Vec<u8>> {
+    let tlvs = three(rt, alloc);
+    let copied = tlvs.copy_of(tag).expect(rt, "memory");
+    drop(tlvs);
+    copied
+}
+
+#[test]
+fn the_first_value_of_a_tag_is_copied(rt: HostRuntime) {
+    let found = value_copied(&rt, rt.alloc(), 0x0204);
+    assert_same(&rt, &found.as_deref(), &Some([0, 7].as_slice()));
+    drop(found);
+    assert!(rt; value_copied(&rt, rt.alloc(), 0x020c).is_none());
 }
 
 /// A parameter whose value is 0 and this octet.

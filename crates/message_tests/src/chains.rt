@@ -5,10 +5,11 @@ ghost use Rattle.std.specs.Prelude.{◌≤◌};
 use crate::same::assert_same;
 use crate::values::{address, text};
 use fate_chain::{
-    Author, Chain, ChainFault, Decree, ErrorCode, Final, Kind, SharedSubmission, Submission,
+    Author, Chain, ChainFault, Content, Decree, ErrorCode, Final, Kind, SharedSubmission,
+    Submission,
 };
 use mc_types::{Incarnation, Moment, MsgId, NodeNo};
-use pdu_codec::{ShortMessage, Tlvs};
+use pdu_codec::Tlvs;
 use pdu_tables::State;
 use std::alloc::Global;
 use std::process::Abort;
@@ -21,10 +22,10 @@ fn id(rt: &impl Abort) -> MsgId {
     MsgId::read(b"1000100001").expect(rt, "an id")
 }
 
-// The text of the message.
-fn short_text(rt: &impl Abort, alloc: Global) -> ShortMessage {
-    let text = ShortMessage::make(alloc, b"Hi").expect(rt, "memory");
-    text.expect(rt, "a text")
+// The text of the message, without other parameters.
+fn content(rt: &impl Abort, alloc: Global) -> Content {
+    let text = b"Hi".to_vec(alloc).expect(rt, "memory");
+    Content::of(text, Tlvs::empty(alloc))
 }
 
 // A message of sme1 to itself, from 144 to 155, of three days.
@@ -42,8 +43,7 @@ fn message(rt: &impl Abort, alloc: Global) -> Submission {
         data_coding: 0,
         schedule: moment(rt, 0x386d4380),
         expiry: moment(rt, 0x38713800),
-        text: short_text(rt, alloc),
-        passed: Tlvs::empty(alloc),
+        content: content(rt, alloc),
     }
 }
 
@@ -74,7 +74,7 @@ fn assert_taken(rt: &impl Abort, chain: Chain) {
         newest.author.incarnation.number(),
         newest.moment.seconds(),
     );
-    let texts = (message.destination.digits.octets(), message.text.octets());
+    let texts = (message.destination.digits.octets(), message.content.text());
     let expiry = message.expiry.seconds();
     assert_same(rt, &by, &(1, 1, 946684800));
     assert_same(rt, &texts, &(b"155".as_slice(), b"Hi".as_slice()));
@@ -297,7 +297,27 @@ fn decrees_are_refused(rt: HostRuntime) {
 }
 
 // The chain of a message that was taken at the least moment.
-const TAKEN_CHAIN: [u8; 60] = [
+const TAKEN_CHAIN: [u8; 61] = [
+    0x02, // format
+    0x00, 0x00, 0x00, 0x00, 0x3b, 0x9c, 0x50, 0xa1, // id
+    0x00, 0x01, // decrees
+    0x01, // taken
+    0x01, 0x00, 0x01, // node and incarnation
+    0x38, 0x6d, 0x43, 0x80, // moment
+    0x04, 0x73, 0x6d, 0x65, 0x31, // submitter
+    0x04, 0x73, 0x6d, 0x65, 0x31, // target
+    0x00, // service_type
+    0x01, 0x01, 0x03, 0x31, 0x34, 0x34, // source
+    0x01, 0x01, 0x03, 0x31, 0x35, 0x35, // destination
+    0x00, 0x00, 0x00, 0x01, 0x00, // esm_class to data_coding
+    0x38, 0x6d, 0x43, 0x80, // schedule
+    0x38, 0x71, 0x38, 0x00, // expiry
+    0x00, 0x02, 0x48, 0x69, // text
+    0x00, 0x00, // optional parameters
+];
+
+// The same as earlier programs wrote it.
+const EARLIER_CHAIN: [u8; 60] = [
     0x01, // format
     0x00, 0x00, 0x00, 0x00, 0x3b, 0x9c, 0x50, 0xa1, // id
     0x00, 0x01, // decrees
@@ -347,6 +367,98 @@ fn the_chain_of_octets_is_as_taken(rt: HostRuntime) {
     assert_taken(&rt, read(&rt, rt.alloc(), &TAKEN_CHAIN));
 }
 
+#[test]
+fn the_chain_of_an_earlier_program_is_read_and_written_anew(rt: HostRuntime) {
+    assert_taken(&rt, read(&rt, rt.alloc(), &EARLIER_CHAIN));
+    assert_spelled(&rt, read(&rt, rt.alloc(), &EARLIER_CHAIN), &TAKEN_CHAIN);
+}
+
+// Where the length of the text stands in that chain, and what stands before it.
+const BEFORE_THE_TEXT: usize = 55;
+
+// A text of so many octets, and one optional parameter with so many in its value, or none.
+type Texts = (u16, Option<u16>);
+
+// The octets of that chain with these in the place of its text and its parameters.
+fn with_texts(rt: &impl Abort, alloc: Global, (text, parameter): Texts) -> Vec<u8> {
+    let mut octets = Vec::new(alloc);
+    let front = TAKEN_CHAIN.get(..BEFORE_THE_TEXT).expect(rt, "octets");
+    octets.extend_from_slice(front).expect(rt, "memory");
+    octets
+        .extend_from_slice(&text.to_be_bytes())
+        .expect(rt, "memory");
+    octets
+        .resize(BEFORE_THE_TEXT + 2 + usize::from(text), b'a')
+        .expect(rt, "memory");
+    let Some(value) = parameter else {
+        octets.extend_from_slice(b"\0\0").expect(rt, "memory");
+        return octets;
+    };
+    let length = value.saturating_add(4);
+    octets
+        .extend_from_slice(&length.to_be_bytes())
+        .expect(rt, "memory");
+    octets.extend_from_slice(&[0x02, 0x04]).expect(rt, "memory");
+    octets
+        .extend_from_slice(&value.to_be_bytes())
+        .expect(rt, "memory");
+    let whole = octets.len().saturating_add(usize::from(value));
+    octets.resize(whole, b'b').expect(rt, "memory");
+    octets
+}
+
+// What each of these shows, a text with a parameter, and whether the chain that has them is read.
+const TEXTS: &[(&str, Texts, bool)] = &[
+    ("an empty text", (0, None), true),
+    ("the longest short_message", (254, None), true),
+    ("the shortest long text", (255, None), true),
+    ("the longest text", (4096, None), true),
+    ("a text that is too long", (4097, None), false),
+    (
+        "a short_message beside 7,000 octets",
+        (254, Some(6996)),
+        true,
+    ),
+    (
+        "a short_message beside 7,001 octets",
+        (254, Some(6997)),
+        false,
+    ),
+    (
+        "a long text beside as many as there is room for",
+        (255, Some(6737)),
+        true,
+    ),
+    ("a long text beside one more", (255, Some(6738)), false),
+    (
+        "the longest text beside as many as there is room for",
+        (4096, Some(2896)),
+        true,
+    ),
+    (
+        "the longest text beside one more",
+        (4096, Some(2897)),
+        false,
+    ),
+];
+
+// How many octets the text of a chain has that is read, if one is.
+fn length_read(alloc: Global, octets: &[u8]) -> Option<usize> {
+    let chain = Chain::read(alloc, octets).ok()?;
+    Some(chain.submission().content.text().len())
+}
+
+#[test]
+fn texts_have_room_beside_what_is_passed_on(rt: HostRuntime) {
+    for (shows, texts, is_read) in TEXTS {
+        let octets = with_texts(&rt, rt.alloc(), *texts);
+        let length = length_read(rt.alloc(), &octets);
+        drop(octets);
+        let wanted = is_read.then_some(usize::from(texts.0));
+        assert_same(&rt, &(*shows, length), &(*shows, wanted));
+    }
+}
+
 // Why octets are no chain's; none if they are.
 fn fault_of(alloc: Global, octets: &[u8]) -> Option<ChainFault> {
     Chain::read(alloc, octets).err()
@@ -365,11 +477,11 @@ fn fault_with(rt: &impl Abort, alloc: Global, length: usize, more: &[u8]) -> Opt
 fn octets_that_are_no_text_are_refused(rt: HostRuntime) {
     let alloc = rt.alloc();
     let no_text = Some(ChainFault::NotBytes);
-    for length in 0..60 {
+    for length in 0..61 {
         let fault = fault_with(&rt, alloc, length, b"");
         assert_same(&rt, &(length, fault), &(length, no_text));
     }
-    let longer = fault_with(&rt, alloc, 60, b"\0");
+    let longer = fault_with(&rt, alloc, 61, b"\0");
     // The text of no decree is one, but of no permitted chain.
     let none = fault_with(&rt, alloc, 9, b"\0\0");
     let wanted = (no_text, Some(ChainFault::NotPermitted));
@@ -382,15 +494,24 @@ const CHANGED: &str = "bbbb kbbb kbbb kbbb kbbb bppp bbbp bkkk bbbk kbbb bbbb bb
 bbbb kbbb bppp bppb bppp bkkk bbkk bbbb bkkk bkkk bkkk bkkk \
 bbbb bkkk bkkk bkkk bkkk kbbb kkkk kkkk bbbb bkkk bkkk bkkk \
 kkkk kkkk bbbb bkkk bkkk bkkk kkkk kkkk kkkk kkkk kkkk bppb \
+bppp bkkk bbkk bkkb bkkk kkkk kkkk kbbb bbbb kkkk kkkk kbbb kbbb";
+
+// The same of those that an earlier program wrote.
+const EARLIER_CHANGED: &str = "bbbb kbbb kbbb kbbb kbbb bppp bbbp bkkk bbbk kbbb bbbb bbbb \
+bbbb kbbb bppp bppb bppp bkkk bbkk bbbb bkkk bkkk bkkk bkkk \
+bbbb bkkk bkkk bkkk bkkk kbbb kkkk kkkk bbbb bkkk bkkk bkkk \
+kkkk kkkk bbbb bkkk bkkk bkkk kkkk kkkk kkkk kkkk kkkk bppb \
 bppp bkkk bbkk bkkb bkkk kkkk kkkk bbbb kkkk kkkk kbbb kbbb";
 
-// What becomes of them with this octet at a place.
-fn changed(alloc: Global, place: usize, octet: u8) -> u8 {
-    let mut octets = TAKEN_CHAIN;
+// What becomes of octets with this one at a place.
+fn changed(rt: &impl Abort, alloc: Global, whole: &[u8], place: usize, octet: u8) -> u8 {
+    let mut octets = whole.to_vec(alloc).expect(rt, "memory");
     if let Some(changed) = octets.get_mut(place) {
         *changed = octet;
     }
-    match fault_of(alloc, &octets) {
+    let fault = fault_of(alloc, &octets);
+    drop(octets);
+    match fault {
         None => b'k',
         Some(ChainFault::NotPermitted) => b'p',
         Some(ChainFault::NotBytes) => b'b',
@@ -398,34 +519,35 @@ fn changed(alloc: Global, place: usize, octet: u8) -> u8 {
     }
 }
 
-#[test]
-fn changed_octets_are_judged(rt: HostRuntime) {
-    let alloc = rt.alloc();
-    assert_same(&rt, &CHANGED.split_whitespace().count(), &60);
-    for (place, wanted) in CHANGED.split_whitespace().enumerate() {
+// That this becomes of octets.
+fn assert_judged(rt: &impl Abort, alloc: Global, whole: &[u8], words: &str) {
+    assert_same(rt, &words.split_whitespace().count(), &whole.len());
+    for (place, wanted) in words.split_whitespace().enumerate() {
         let judged = [
-            changed(alloc, place, 0x00),
-            changed(alloc, place, 0x7f),
-            changed(alloc, place, 0x80),
-            changed(alloc, place, 0xff),
+            changed(rt, alloc, whole, place, 0x00),
+            changed(rt, alloc, whole, place, 0x7f),
+            changed(rt, alloc, whole, place, 0x80),
+            changed(rt, alloc, whole, place, 0xff),
         ];
-        assert_same(
-            &rt,
-            &(place, judged.as_slice()),
-            &(place, wanted.as_bytes()),
-        );
+        assert_same(rt, &(place, judged.as_slice()), &(place, wanted.as_bytes()));
     }
 }
 
+#[test]
+fn changed_octets_are_judged(rt: HostRuntime) {
+    assert_judged(&rt, rt.alloc(), &TAKEN_CHAIN, CHANGED);
+    assert_judged(&rt, rt.alloc(), &EARLIER_CHAIN, EARLIER_CHANGED);
+}
+
 // The longest chain: taken, tried eight times, each failure seven seconds after its attempt, and given up by another node.
-const TRIED_CHAIN: [u8; 223] = [
+const TRIED_CHAIN: [u8; 224] = [
     // format, id and number of decrees
-    0x01, 0x00, 0x00, 0x00, 0x00, 0x3b, 0x9c, 0x50, 0xa1, 0x00, 0x12,
+    0x02, 0x00, 0x00, 0x00, 0x00, 0x3b, 0x9c, 0x50, 0xa1, 0x00, 0x12,
     // taken
     0x01, 0x01, 0x00, 0x01, 0x38, 0x6d, 0x43, 0x80, 0x04, 0x73, 0x6d, 0x65, 0x31, 0x04, 0x73, 0x6d,
     0x65, 0x31, 0x00, 0x01, 0x01, 0x03, 0x31, 0x34, 0x34, 0x01, 0x01, 0x03, 0x31, 0x35, 0x35, 0x00,
-    0x00, 0x00, 0x01, 0x00, 0x38, 0x6d, 0x43, 0x80, 0x38, 0x71, 0x38, 0x00, 0x02, 0x48, 0x69, 0x00,
-    0x00,
+    0x00, 0x00, 0x01, 0x00, 0x38, 0x6d, 0x43, 0x80, 0x38, 0x71, 0x38, 0x00, 0x00, 0x02, 0x48, 0x69,
+    0x00, 0x00,
     // attempts, each with its failure
     0x02, 0x01, 0x00, 0x01, 0x38, 0x6d, 0x43, 0x80, 0x01, 0x03, 0x01, 0x00, 0x02, 0x38, 0x6d, 0x43,
     0x87, 0x00, 0x64, 0x02, 0x01, 0x00, 0x02, 0x38, 0x6d, 0x43, 0xc3, 0x02, 0x03, 0x01, 0x00, 0x03,

@@ -4,7 +4,7 @@ use crate::same::assert_same;
 use crate::values::{address, text};
 use desk::{Admitted, Door, Request};
 use mc_types::Moment;
-use pdu_codec::{Body, Cancel, Message, Query, decode};
+use pdu_codec::{Body, Cancel, Message, Query, ShortMessage, decode};
 use pdu_tables::Status;
 use std::alloc::Global;
 use std::process::Abort;
@@ -22,6 +22,12 @@ enum Asked<'a> {
     Submit(u8),
     // The same, and no route leads from its destination.
     Unrouted(u8),
+    // The same with an empty short_message, and with optional parameters of this tag, each with so many octets in its value.
+    Payloads(u16, &'a [u16]),
+    // The same with its short_message, and such a parameter.
+    Beside(u16, u16),
+    // A message_payload of so many octets, and no route.
+    UnroutedPayload(u16),
     // By message_id and source.
     Query(&'a [u8], &'a [u8]),
     // By message_id, source and destination.
@@ -34,6 +40,33 @@ fn message(rt: &impl Abort, alloc: Global, registered_delivery: u8) -> Message {
         panic!(rt; "a submit_sm");
     };
     message.registered_delivery = registered_delivery;
+    message
+}
+
+// The tag of message_payload, and that of receipted_message_id, which is no text.
+const PAYLOAD: u16 = 0x0424;
+
+const OTHER: u16 = 0x001e;
+
+// A message gets one more optional parameter, with so many octets in its value.
+fn put_payload(rt: &impl Abort, alloc: Global, message: &mut Message, tag: u16, length: u16) {
+    let mut value = Vec::new(alloc);
+    value.resize(usize::from(length), b'a').expect(rt, "memory");
+    let room = 7000_usize.saturating_sub(message.tlvs.octets().len());
+    if value.len().saturating_add(4) <= room {
+        message.tlvs.push(tag, &value).expect(rt, "memory");
+    }
+    drop(value);
+}
+
+// The message above with an empty short_message, and these optional parameters.
+fn with_payloads(rt: &impl Abort, alloc: Global, tag: u16, lengths: &[u16]) -> Message {
+    let mut message = message(rt, alloc, 1);
+    let empty = ShortMessage::make(alloc, b"").expect(rt, "memory");
+    message.short_message = empty.expect(rt, "a short_message");
+    for length in lengths {
+        put_payload(rt, alloc, &mut message, tag, *length);
+    }
     message
 }
 
@@ -67,6 +100,18 @@ fn request(rt: &impl Abort, alloc: Global, asked: Asked<'_>) -> Request {
         }
         Asked::Unrouted(registered_delivery) => {
             Request::Submit(message(rt, alloc, registered_delivery), None)
+        }
+        Asked::Payloads(tag, lengths) => {
+            let message = with_payloads(rt, alloc, tag, lengths);
+            Request::Submit(message, Some(text(rt, alloc, b"sme1")))
+        }
+        Asked::Beside(tag, length) => {
+            let mut message = message(rt, alloc, 1);
+            put_payload(rt, alloc, &mut message, tag, length);
+            Request::Submit(message, Some(text(rt, alloc, b"sme1")))
+        }
+        Asked::UnroutedPayload(length) => {
+            Request::Submit(with_payloads(rt, alloc, PAYLOAD, &[length]), None)
         }
         Asked::Query(message_id, source) => Request::Ask(query(rt, alloc, message_id, source)),
         Asked::Cancel(message_id, source, destination) => {
@@ -173,6 +218,62 @@ const WITHOUT_ROOM: &[Row] = &[
         Judged::Refused(Status::Throttled),
     ),
 ];
+
+// Requests, and how many octets the text has that is taken, or the status that refuses it.
+const TEXTS: &[(Asked<'static>, Result<usize, Status>)] = &[
+    (Asked::Submit(1), Ok(2)),
+    (Asked::Payloads(PAYLOAD, &[]), Ok(0)),
+    (Asked::Payloads(PAYLOAD, &[0]), Ok(0)),
+    (Asked::Payloads(PAYLOAD, &[2]), Ok(2)),
+    (Asked::Payloads(PAYLOAD, &[255]), Ok(255)),
+    (Asked::Payloads(PAYLOAD, &[4096]), Ok(4096)),
+    (
+        Asked::Payloads(PAYLOAD, &[4097]),
+        Err(Status::InvalidMessageLength),
+    ),
+    (Asked::Payloads(PAYLOAD, &[3, 4097]), Ok(3)),
+    (
+        Asked::Payloads(PAYLOAD, &[4097, 3]),
+        Err(Status::InvalidMessageLength),
+    ),
+    (Asked::Payloads(OTHER, &[4097]), Ok(0)),
+    (Asked::Beside(PAYLOAD, 4097), Ok(2)),
+    (
+        Asked::UnroutedPayload(4097),
+        Err(Status::InvalidMessageLength),
+    ),
+    (
+        Asked::UnroutedPayload(4096),
+        Err(Status::InvalidDestinationAddress),
+    ),
+];
+
+// How many octets the text has that is taken of a submit_sm, or why it is refused; none if it is no submit_sm.
+fn length_taken(admitted: &Result<Admitted, Status>) -> Option<Result<usize, Status>> {
+    match admitted {
+        Ok(Admitted::Submit(message)) => Some(Ok(message.content.text().len())),
+        Ok(_) => None,
+        Err(status) => Some(Err(*status)),
+    }
+}
+
+fn text_of(rt: &impl Abort, alloc: Global, asked: Asked<'_>) -> Option<Result<usize, Status>> {
+    let account = text(rt, alloc, b"sme1");
+    let admitted = door(1, false).admit(&account, request(rt, alloc, asked));
+    drop(account);
+    let admitted = admitted.expect(rt, "memory");
+    let length = length_taken(&admitted);
+    drop(admitted);
+    length
+}
+
+#[test]
+fn a_text_is_the_short_message_or_the_first_payload(rt: HostRuntime) {
+    for (number, (asked, wanted)) in TEXTS.iter().enumerate() {
+        let taken = text_of(&rt, rt.alloc(), *asked);
+        assert_same(&rt, &(number, taken), &(number, Some(*wanted)));
+    }
+}
 
 // What each of these shows, the next serial at the door, whether so many requests wait already that none more may, and what becomes of requests.
 const DOORS: &[(&str, u32, bool, &[Row])] = &[

@@ -44,7 +44,8 @@ use Rattle.sessions.specs.declared.request.OpenRequest.{OpenRequest}
 use Rattle.sessions.specs.declared.requested.Requested.{Requested}
 use Rattle.sessions.specs.declared.response.Outgoing.{Outgoing}
 use Rattle.sessions.specs.declared.response.Response.TheVariants.{Nack}
-use Rattle.desk.specs.Admissions.{about, admitted, asks_about, submitted_as, taken_as}
+use Rattle.desk.specs.Desk.{is_too_long}
+use Rattle.desk.specs.Admissions.{about, admitted, asks_about, routed_as, submitted_as, taken_as}
 use Rattle.desk.specs.Arrivals.{door_at, judged_as, next_id}
 use Rattle.desk.specs.Times.{Times}
 use Rattle.desk.specs.declared.door.Door.{Door}
@@ -128,8 +129,13 @@ taken_names body next account target message (Err status) waited is = absurd cc
 
 submit_names : (body : Body) (door : Door) (next : ℕ) (account : List ℕ) (message : Message) (target : Option (List ℕ)) (waited : Waited) →
     submitted_as door next account message target ≡ Ok waited → Names body waited
-submit_names body door next account message None waited is = absurd cc
-submit_names body door next account message (Some target) waited is = taken_names body next account target message _ waited is
+submit_names body door next account message target waited is = by_length (is_too_long message) target is
+  where
+    by_length : (long : Bool) (target : Option (List ℕ)) →
+        cond long (Err statuses.InvalidMessageLength) (routed_as door next account message target) ≡ Ok waited → Names body waited
+    by_length true target is = absurd cc
+    by_length false None is = absurd cc
+    by_length false (Some target) is = taken_names body next account target message _ waited is
 
 asks_names : (body : Body) (ask : ℕ → Waited) (busy : Bool) (found : Option ℕ) (waited : Waited) → asks_about ask (about busy found) ≡ Ok waited →
     ((id : ℕ) → found ≡ Some id → Names body (ask id)) → Names body waited

@@ -24,7 +24,7 @@ use Rattle.script_text.specs.Settings.{Settings}
 use Rattle.script_text.specs.Attempts.{submission_at}
 use Rattle.script_text.specs.Node.{Node, step_at, tick_at}
 use Rattle.script_text.specs.Prints.{AtOnce, Declined, Delivers, Gone, Late, Print, Reports, Ungranted}
-use Rattle.script_text.specs.Pushes.{accounts_up, session_at, target_in}
+use Rattle.script_text.specs.Pushes.{accounts_up, is_long, session_at, target_in}
 use Rattle.script_text.specs.Runner.{Acted, Runner, Served, answered_by, ends, gives_up, granted, granted_unless, held_in, holds}
 use Rattle.script_text.specs.Runner.{mail_of, nothing_came, on_delivery, on_done, on_frame, on_frames, on_grant, on_octets, on_read, on_rest, on_tick}
 use Rattle.script_text.specs.Runner.{opened_at, pushes, sent, sent_to, served_at, serves, session_in, ticked, told}
@@ -109,7 +109,7 @@ grant_ungone runner id = by_refusal (grant_refusal runner.node.setup runner.node
 
     sent_ungone : (taken : Option Submission) → IsUngone (sent now slot taken).prints
     sent_ungone None = λ number among. among
-    sent_ungone (Some taken) = sent_to_ungone taken (target_in now.sessions taken.target)
+    sent_ungone (Some taken) = sent_to_ungone taken (target_in now.sessions (is_long taken.text) taken.target)
 
     by_refusal : (refusal : Option GrantRefusal) → IsUngone (granted_unless runner id slot refusal).prints
     by_refusal None = sent_ungone (submission_at runner.node id)

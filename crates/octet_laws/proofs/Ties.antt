@@ -49,7 +49,7 @@ use Rattle.script_text.specs.Left.{followed_by, rests}
 use Rattle.script_text.specs.Attempts.{Went, all_given_up, concluded, delivered_so, given_up, submission_at, unanswered, went}
 use Rattle.script_text.specs.Node.{Node, step_at, tick_at}
 use Rattle.script_text.specs.Prints.{AtOnce, Declined, Delivers, Gone, Late, Print, Reports, Ungranted}
-use Rattle.script_text.specs.Pushes.{accounts_up, delivery_on, overdue_in, pushed_on, session_at, target_in, timely_in, with_push}
+use Rattle.script_text.specs.Pushes.{accounts_up, delivery_on, is_long, overdue_in, pushed_on, session_at, target_in, timely_in, with_push}
 use Rattle.script_text.specs.Receipts.{Mail, Posted, all_posted, goes_out, goes_out_up_to, is_for, posted, posted_for, posted_for_all}
 use Rattle.script_text.specs.Receipts.{posted_for_any, posted_to, reports_on, submitter_of, waits_for, with_both}
 use Rattle.script_text.specs.Responses.{reply_pdu}
@@ -411,7 +411,7 @@ goes_out_up_to_posts : (number most now : ℕ) (account : List ℕ) (mail : Mail
 unfolding goes_out_up_to
 goes_out_up_to_posts number zero now account mail = stays_posted number mail
 goes_out_up_to_posts number (suc more) now account mail =
-    at_both (find (is_for account) mail.waiting) (target_in mail.sessions account) (goes_out_up_to_posts number more now account)
+    at_both (find (is_for account) mail.waiting) (target_in mail.sessions false account) (goes_out_up_to_posts number more now account)
   where
     at_both : (found : Option Receipt) (target : Option ℕ) → ((next : Mail) → Posts number next (goes_out_up_to more now account next)) →
         Posts number mail (with_both (rests mail)
@@ -685,7 +685,7 @@ grant_keep number stream runner id hears = by_refusal (grant_refusal runner.node
 
     sent_so : (taken : Option Submission) → Keeps number stream (sent one.next slot taken)
     sent_so None = fails
-    sent_so (Some taken) = sent_to_so taken (target_in runner.sessions taken.target)
+    sent_so (Some taken) = sent_to_so taken (target_in runner.sessions (is_long taken.text) taken.target)
 
     by_refusal : (refusal : Option GrantRefusal) → Keeps number stream (granted_unless runner id slot refusal)
     by_refusal None =

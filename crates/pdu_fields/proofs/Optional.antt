@@ -1,6 +1,6 @@
 -- Optional parameters: those that octets are, one more, one after the other, and those that pass a test.
 use Rattle.std.proofs.Common.{◌≡◌, ℕ, ◌+◌, ◌≤◌, ◌==◌, Bool, true, false, cond, eqb, List, [], ◌∷◌, ◌++◌, length, Option, Some, None}
-use Rattle.std.proofs.Common.{option_map, append_assoc, Result, Ok, Err, IsOk, OnOk, OnErr, refl, sym, subst, ◌∙◌, ap, arith}
+use Rattle.std.proofs.Common.{option_map, append_assoc, Result, Ok, Err, IsOk, is_ok, OnOk, OnErr, refl, sym, subst, ◌∙◌, ap, arith}
 use Rattle.std.proofs.Common.{length-append}
 use Rattle.std.specs.Bool.{Decides}
 use Rattle.std.specs.Str.{bytes_eq}
@@ -132,6 +132,50 @@ tlvs-more octets tlv are tag few =
       tlvs = ap tlvs_in (sym whole) ∙ tlvs_in-octets (tlvs ++ tlv ∷ []) limits;
     }
 
+-- ---- others behind them
+
+tags-joined : (tlvs others : List (ℕ × List ℕ)) → AllByRecursion IsTagged tlvs → AllByRecursion IsTagged others → AllByRecursion IsTagged (tlvs ++ others)
+tags-joined [] others tags also = also
+tags-joined (first ∷ tlvs) others tags also = (tags.0, tags-joined tlvs others tags.1 also)
+
+-- what octets are with those of others behind them
+pub record Joined (octets others : List ℕ) : Type 0 where
+  pub are : AreTlvs (octets ++ others)
+  pub tlvs : tlvs_in (octets ++ others) ≡ tlvs_in octets ++ tlvs_in others
+
+pub tlvs-joined : (octets others : List ℕ) → AreTlvs octets → AreTlvs others →
+    length (optional_octets (tlvs_in octets)) + length (optional_octets (tlvs_in others)) ≤ 7000 →
+    Joined octets others
+tlvs-joined octets others are also few =
+    let all : List (ℕ × List ℕ) = tlvs_in octets ++ tlvs_in others in
+    let parts : optional_octets all ≡ optional_octets (tlvs_in octets) ++ optional_octets (tlvs_in others) =
+    flat_map-append tlv_octets (tlvs_in octets) (tlvs_in others) in
+    let limits : AreOptional all = record {
+      tags = tags-joined (tlvs_in octets) (tlvs_in others) are.limits.tags also.limits.tags;
+      most = omega (arith, few, ap length parts, length-append (optional_octets (tlvs_in octets)) (optional_octets (tlvs_in others)));
+    } in
+    let whole : optional_octets all ≡ octets ++ others = parts ∙ ap (λ (front : List ℕ). front ++ optional_octets (tlvs_in others)) (sym are.spelled)
+    ∙ ap (λ (back : List ℕ). octets ++ back) (sym also.spelled) in
+    record {
+      are = subst AreTlvs whole (are_tlvs all limits);
+      tlvs = ap tlvs_in (sym whole) ∙ tlvs_in-octets all limits;
+    }
+
+-- what a call leaves that put others behind octets, or changed nothing
+module _ (old : List ℕ) (others : List (ℕ × List ℕ)) (new : List ℕ) (are : AreTlvs old) (also : AreOptional others)
+    (few : length (optional_octets (tlvs_in old)) + length (optional_octets others) ≤ 7000) where
+  joined : Joined old (optional_octets others)
+  joined = tlvs-joined old (optional_octets others) are (are_tlvs others also)
+      (subst (λ (tlvs : List (ℕ × List ℕ)). length (optional_octets (tlvs_in old)) + length (optional_octets tlvs) ≤ 7000) (sym (tlvs_in-octets others also)) few)
+
+  pub tlvs-behind : {E : Type 0} (r : Result (Unit {0}) E) → new ≡ cond (is_ok r) (old ++ optional_octets others) old → AreTlvs new
+  tlvs-behind (Ok x) is = subst AreTlvs (sym is) joined.are
+  tlvs-behind (Err e) is = subst AreTlvs (sym is) are
+
+  pub behind-is : {E : Type 0} (r : Result (Unit {0}) E) → new ≡ cond (is_ok r) (old ++ optional_octets others) old → OnOk r (tlvs_in new ≡ tlvs_in old ++ others)
+  behind-is (Ok x) is = ap tlvs_in is ∙ joined.tlvs ∙ ap (λ (tlvs : List (ℕ × List ℕ)). tlvs_in old ++ tlvs) (tlvs_in-octets others also)
+  behind-is (Err e) is = tt
+
 -- if a call put one more behind octets, or changed nothing, they are optional parameters still
 pub tlvs-after : {E : Type 0} (r : Result (Unit {0}) E) (old new : List ℕ) (tlv : ℕ × List ℕ) → More old tlv → AreTlvs old →
     OnOk r (new ≡ old ++ tlv_octets tlv) → OnErr r (new ≡ old) →
@@ -196,7 +240,7 @@ tags-filter test (tlv ∷ tlvs) tags =
       | false ↦ tags-filter test tlvs tags.1
     ]
 
-most-filter : (test : ℕ × List ℕ → Bool) (tlvs : List (ℕ × List ℕ)) → length (optional_octets (filter test tlvs)) ≤ length (optional_octets tlvs)
+pub most-filter : (test : ℕ × List ℕ → Bool) (tlvs : List (ℕ × List ℕ)) → length (optional_octets (filter test tlvs)) ≤ length (optional_octets tlvs)
 most-filter test [] = omega arith
 most-filter test (tlv ∷ tlvs) =
     elim (test tlv) as (λ t. length (optional_octets (cond t (tlv ∷ filter test tlvs) (filter test tlvs))) ≤ length (optional_octets (tlv ∷ tlvs))) [

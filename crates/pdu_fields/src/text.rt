@@ -133,6 +133,14 @@ impl ShortMessage {
         self.octets.as_slice()
     }
 
+    /// Its octets, to be kept. It takes no memory.
+    pub fn into_octets(self) -> Vec<u8>
+        ensures octets { result.items ≡ self }
+        ensures short { IsShortMessage self }
+    {
+        self.octets
+    }
+
     /// The same message once more.
     pub fn copy(&self) -> Result<Self, AllocError>
         ensures { IfOk result (λ message. message ≡ self.now) }

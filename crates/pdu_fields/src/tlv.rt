@@ -1,6 +1,7 @@
 //! Optional parameters.
 
-ghost use Rattle.std.specs.Prelude.{◌≡◌, ◌<◌, ◌≤◌, ◌+◌, ◌^◌, None, Some, [], ◌∷◌, ◌++◌, length, filter, IfOk, IsOk, OnOk, OnErr, MatchOption};
+ghost use Rattle.std.specs.Prelude.{◌≡◌, ◌<◌, ◌≤◌, ◌+◌, ◌^◌, None, Some, [], ◌∷◌, ◌++◌, length, filter, IfOk, IsOk, OnOk, OnErr, MatchOption, ℕ, option_map};
+ghost use Rattle.std.specs.Global.{Vec};
 ghost use Rattle.pdu_fields.specs.Text.{AreOptional, tlv_octets, optional_octets, has_tag_among};
 ghost use Rattle.pdu_fields.specs.Grammar.{optional_at};
 ghost use Rattle.pdu_fields.specs.Tlv.{AreTlvs, tlvs_in, value_of};
@@ -55,6 +56,15 @@ impl Tlvs {
         put_tlv(&mut self.octets, tag, value)
     }
 
+    /// Puts others after them. If there is no memory for that nothing changes.
+    pub fn extend(&mut self, others: &Tlvs) -> Result<(), AllocError>
+        requires { length (optional_octets self.old) + length (optional_octets others.now) ≤ 7000 }
+        ensures ok { OnOk result (self.new ≡ self.old ++ others.now) }
+        ensures err { OnErr result (self.new ≡ self.old) }
+    {
+        self.octets.extend_from_slice(others.octets())
+    }
+
     /// Their octets: of each its tag, its length and its value.
     pub fn octets(&self) -> &[u8]
         ensures octets { result.now ≡ optional_octets self.now }
@@ -70,6 +80,17 @@ impl Tlvs {
             (λ value. value_of tag self.now ≡ Some value.now) }
     {
         value_at(tag, &self.octets)
+    }
+
+    /// A copy of the value of the first that has this tag. It takes no memory if none has it.
+    pub fn copy_of(&self, tag: u16) -> Result<Option<Vec<u8>>, AllocError>
+        ensures value { IfOk result (λ copied. option_map (λ (octets : Vec ℕ). octets.items) copied ≡ value_of tag self.now) }
+        ensures memory { value_of tag self.now ≡ None → IsOk result }
+    {
+        match self.get(tag) {
+            Some(value) => Ok(Some(Vec::from_slice(*self.octets.allocator(), value)?)),
+            None => Ok(None),
+        }
     }
 
     /// The same optional parameters once more.

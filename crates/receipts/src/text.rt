@@ -137,7 +137,7 @@ fn first_text(taken: &Submission) -> &[u8]
     ensures text { result.now ≡ first_text taken.now }
     ensures length { length result.now ≤ 20 }
 {
-    let text = taken.text.octets();
+    let text = taken.content.text();
     match taken.data_coding {
         0 | 1 | 3 => text.get(..SHOWN).unwrap_or(text),
         _ => b"",

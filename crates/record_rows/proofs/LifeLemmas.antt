@@ -36,9 +36,6 @@ use Rattle.record_rows.proofs.SqlLemmas.{cast_null, cast_int, went, same_value}
 abbrev stored : ℤ → Row
 stored n = Int (pos 1) ∷ Null ∷ Int n ∷ []
 
-cast_stored : (tree : ℕ) (n : ℤ) → cast_row (life_table tree) (stored n) ≡ stored n
-cast_stored tree n = rw (cast_null, cast_int n, cast_int (pos 1))
-
 is_last : (rows : List Row) (n : ℤ) → rows ≡ stored n ∷ [] → AreLife rows (Some n)
 is_last rows n is = (stored n, is, refl, refl)
 

@@ -2,9 +2,9 @@
 
 ghost use Rattle.std.specs.Prelude.{◌≡◌};
 
-use fate_chain::{Author, Chain, Decree, ErrorCode, Final, Kind, Submission};
+use fate_chain::{Author, Chain, Content, Decree, ErrorCode, Final, Kind, Submission};
 use mc_types::{Ballot, Incarnation, Moment, MsgId, NodeNo};
-use pdu_codec::{Address, ShortMessage, Text, Tlvs};
+use pdu_codec::{Address, Text, Tlvs};
 use std::alloc::Global;
 use std::process::Abort;
 use synod_acceptor::Vote;
@@ -44,9 +44,10 @@ fn address(rt: &impl Abort, alloc: Global, digits: &[u8]) -> Address {
     }
 }
 
-fn short_text(rt: &impl Abort, alloc: Global, octets: &[u8]) -> ShortMessage {
-    let text = ShortMessage::make(alloc, octets).expect(rt, "memory");
-    text.expect(rt, "a text")
+// A text without other parameters.
+fn content(rt: &impl Abort, alloc: Global) -> Content {
+    let text = b"Hi".to_vec(alloc).expect(rt, "memory");
+    Content::of(text, Tlvs::empty(alloc))
 }
 
 // A message of sme1 to itself, from 144 to 155, of three days.
@@ -64,8 +65,7 @@ pub fn message(rt: &impl Abort, alloc: Global) -> Submission {
         data_coding: 0,
         schedule: after(rt, 0),
         expiry: after(rt, 259200),
-        text: short_text(rt, alloc, b"Hi"),
-        passed: Tlvs::empty(alloc),
+        content: content(rt, alloc),
     }
 }
 

@@ -98,7 +98,7 @@ module _ (node : ℕ) where
   }
 
   module _ (now : ℕ) (account : List ℕ) where
-    posts_one : (m : Mail) (receipt : Receipt) (number : ℕ) → find (is_for account) m.waiting ≡ Some receipt → target_in m.sessions account ≡ Some number
+    posts_one : (m : Mail) (receipt : Receipt) (number : ℕ) → find (is_for account) m.waiting ≡ Some receipt → target_in m.sessions false account ≡ Some number
         → posted_for now m account ≡ followed_by (goes_out now account m receipt number) (posted_for now (goes_out now account m receipt number).next account)
     unfolding goes_out_up_to
     posts_one m receipt number found over =
@@ -115,13 +115,13 @@ module _ (node : ℕ) where
     both_none none each (Some a) None is = refl
     both_none none each (Some a) (Some b) is = absurd is
 
-    none_goes : (most : ℕ) (m : Mail) → is_none_of (find (is_for account) m.waiting) (target_in m.sessions account)
+    none_goes : (most : ℕ) (m : Mail) → is_none_of (find (is_for account) m.waiting) (target_in m.sessions false account)
         → goes_out_up_to most now account m ≡ rests m
     unfolding goes_out_up_to
     none_goes zero m none = refl
     none_goes (suc more) m none =
         both_none (rests m) (λ r n. followed_by (goes_out now account m r n) (goes_out_up_to more now account (goes_out now account m r n).next))
-        (find (is_for account) m.waiting) (target_in m.sessions account) none
+        (find (is_for account) m.waiting) (target_in m.sessions false account) none
 
     -- none goes out any more
     pub none_sent : (all : Posted) (before_it left : Service) (before text : List ℕ) → IsLeft node all (posted_for now (mail_in before_it) account) before text

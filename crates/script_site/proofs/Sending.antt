@@ -19,7 +19,7 @@ use Rattle.esme_service.specs.Service.{Service}
 use Rattle.esme_service.specs.declared.pushed_on.PushedOn.{PushedOn}
 use Rattle.esme_service.specs.declared.sending.Sending.TheVariants as sendings
 use Rattle.script_text.specs.Attempts.{concluded, unanswered}
-use Rattle.script_text.specs.Pushes.{session_at, target_in, with_push}
+use Rattle.script_text.specs.Pushes.{is_long, session_at, target_in, with_push}
 use Rattle.script_text.specs.Runner.{Acted, fails_by, pushes, sent, sent_to}
 use Rattle.script_site.specs.Sites.{Acts, Goes, HasActed, Placed}
 use Rattle.script_site.specs.Written.{IsWritten, line_of}
@@ -39,14 +39,14 @@ module _ (at : Placed) (chain : Chain) (taken : Submission) (slot : Slot) (is : 
       subst (λ (a : Acted). HasActed home w a new before after) (λ i. sent runner (same i) (sym is i)) (did w runner running)
 
   pub pushed_acts : (r : Result (Unit {0}) AllocError) (left : Service) (pushed : PushedOn) (now : ℕ) (before after : List ℕ)
-      → now ≡ clock_in at.world home → GoesOut at.site.service.sessions taken.target now (Attempt slot) pushed left.sessions
+      → now ≡ clock_in at.world home → GoesOut at.site.service.sessions (is_long taken.text) taken.target now (Attempt slot) pushed left.sessions
       → left.waiting ≡ at.site.service.waiting → OnOk r (IsWritten home (sendings.Attempt pushed chain) before after)
       → OnOk r (EndsInAttempt chain.decrees → Sends (with_service at left) before after)
   pushed_acts (Err fault) left pushed now before after clock out waiting wrote = tt
   pushed_acts (Ok done) left pushed now before after clock out waiting wrote =
       λ ends. sends (with_service at left) before after (λ w runner running.
       let number = pushed.number in
-      let over = ap (λ (sessions : List (ℕ × Session)). target_in sessions taken.target) (sym running.sessions) ∙ out.takes in
+      let over = ap (λ (sessions : List (ℕ × Session)). target_in sessions (is_long taken.text) taken.target) (sym running.sessions) ∙ out.takes in
       let there = ap (λ (sessions : List (ℕ × Session)). session_at sessions number) (sym running.sessions) ∙ out.stands in
       let connected = out.left ∙ (λ i. with_push (running.sessions i) number ((clock ∙ clock_so home at w runner running) i) (Attempt slot)) in
       let octets = wrote.are ends taken is
@@ -62,14 +62,14 @@ module _ (at : Placed) (chain : Chain) (taken : Submission) (slot : Slot) (is : 
 
   -- nobody takes it
   pub untaken_acts : (r : Result (Unit {0}) AllocError) (new : Scene) (left : Service) (outcome : Outcome) (text : List ℕ) → outcome ≡ unanswered
-      → target_in at.site.service.sessions taken.target ≡ None → left.sessions ≡ at.site.service.sessions → left.waiting ≡ at.site.service.waiting
+      → target_in at.site.service.sessions (is_long taken.text) taken.target ≡ None → left.sessions ≡ at.site.service.sessions → left.waiting ≡ at.site.service.waiting
       → OnOk r (Goes home (λ n. concluded n slot outcome) at.world new)
       → OnOk r (EndsInAttempt chain.decrees → Sends (record { world = new; site = record at.site { service = left } }) text text)
   untaken_acts (Err fault) new left outcome text nobody none sessions waiting goes = tt
   untaken_acts (Ok done) new left outcome text nobody none sessions waiting goes = λ ends.
       let then : Placed = record { world = new; site = record at.site { service = left } } in
       sends then text text (λ w runner running.
-      let nowhere = ap (λ (all : List (ℕ × Session)). target_in all taken.target) (sym running.sessions) ∙ none in
+      let nowhere = ap (λ (all : List (ℕ × Session)). target_in all (is_long taken.text) taken.target) (sym running.sessions) ∙ none in
       let did : HasActed home w (fails_by runner (concluded runner.node slot unanswered)) then text text = record {
         running = record {
           home_is = running.home_is;

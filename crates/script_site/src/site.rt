@@ -323,7 +323,11 @@ impl Site {
             place: chain.place(),
         };
         let now = world.clock(self.node);
-        match self.service.push(&chain.submission().target, now, slot) {
+        let taken = chain.submission();
+        match self
+            .service
+            .push(&taken.target, taken.content.is_long(), now, slot)
+        {
             Some(pushed) => write_sending(text, self.node, &Sending::Attempt(pushed, chain)),
             None => {
                 drop(chain);

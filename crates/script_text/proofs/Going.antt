@@ -31,7 +31,7 @@ use Rattle.desk.specs.declared.request.Request.{Request}
 use Rattle.script_text.specs.Left.{followed_by, rests}
 use Rattle.script_text.specs.Settings.{Settings}
 use Rattle.script_text.specs.Node.{Node, request_at, step_at, tick_at, with_step}
-use Rattle.script_text.specs.Pushes.{accounts_up, overdue_in, session_at, target_in}
+use Rattle.script_text.specs.Pushes.{accounts_up, is_long, overdue_in, session_at, target_in}
 use Rattle.script_text.specs.Attempts.{Went, all_given_up, concluded, delivered_so, given_up, submission_at, unanswered, went}
 use Rattle.script_text.specs.Runner.{Runner, Acted, Served, Came, answered_by, came_by, declined, ends, gives_up}
 use Rattle.script_text.specs.Runner.{granted, granted_unless, held_in, holds, last_incarnation, makes_room}
@@ -193,7 +193,7 @@ module _ (Goes : Node → List Input → Node → Type 0) (going : IsGoing Goes)
 
   sent_goes : (runner : Runner) (slot : Slot) (taken : Option Submission) → ActedGoes runner (sent runner slot taken)
   sent_goes runner slot None = fails_goes runner slot
-  sent_goes runner slot (Some taken) = sent_to_goes runner slot taken (target_in runner.sessions taken.target)
+  sent_goes runner slot (Some taken) = sent_to_goes runner slot taken (target_in runner.sessions (is_long taken.text) taken.target)
 
   granted_goes : (runner : Runner) (id : ℕ) (slot : Slot) (refusal : Option GrantRefusal) → ActedGoes runner (granted_unless runner id slot refusal)
   granted_goes runner id slot None =

@@ -35,7 +35,7 @@ use Rattle.script_text.specs.Left.{Left, followed_by, in_front}
 use Rattle.script_text.specs.Attempts.{unanswered}
 use Rattle.script_text.specs.Responses.{refusal_pdu, reply_pdu}
 use Rattle.script_text.specs.Prints.{Print, AtOnce, Late, Delivers, Ungranted, text_at}
-use Rattle.script_text.specs.Pushes.{accounts_up, delivery_on, target_in, with_push}
+use Rattle.script_text.specs.Pushes.{accounts_up, delivery_on, is_long, target_in, with_push}
 use Rattle.delivery.specs.Targets.{is_up}
 use Rattle.script_text.specs.Receipts.{Mail, Posted, all_posted, posted_for_all, posted_for_any}
 use Rattle.script_text.specs.Runner.{Came, came_by, nothing_came, session_in}
@@ -117,7 +117,7 @@ sent_over one id taken (Some number) =
 -- to the account of its message
 abbrev pub sent : OneNode → ℕ → Option Submission → Happened
 sent one id None = prints_now (concludes one id unanswered) []
-sent one id (Some taken) = sent_over one id taken (target_in one.sessions taken.target)
+sent one id (Some taken) = sent_over one id taken (target_in one.sessions (is_long taken.text) taken.target)
 
 -- it is granted, unless the table has a reason not to
 abbrev pub granted_unless : OneNode → ℕ → Option GrantRefusal → Happened

@@ -1,5 +1,5 @@
 -- Receipts go out, one after another (own).
-use Rattle.std.specs.Prelude.{ℕ, zero, suc, List, [], ◌∷◌, find, length, Option, Some, None}
+use Rattle.std.specs.Prelude.{ℕ, false, zero, suc, List, [], ◌∷◌, find, length, Option, Some, None}
 use Rattle.mc_model.specs.node.Input.{Input}
 use Rattle.mc_model.specs.node.Outputs.{Receipt}
 use Rattle.receipts.specs.Texts.{Report}
@@ -48,7 +48,7 @@ goes_out_up_to zero now account mail = rests mail
 goes_out_up_to (suc more) now account mail =
     with_both (rests mail)
     (λ receipt number. followed_by (goes_out now account mail receipt number) (goes_out_up_to more now account (goes_out now account mail receipt number).next))
-    (find (is_for account) mail.waiting) (target_in mail.sessions account)
+    (find (is_for account) mail.waiting) (target_in mail.sessions false account)
 
 -- what waits for an account goes out, as far as its sessions take it
 abbrev pub posted_for : ℕ → Mail → List ℕ → Posted

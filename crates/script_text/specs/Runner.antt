@@ -30,7 +30,7 @@ use Rattle.script_text.specs.Settings.{Settings}
 use Rattle.script_text.specs.Left.{Left, followed_by, in_front, rests}
 use Rattle.script_text.specs.Node.{Node, awaiting, request_at, step_at, tick_at, with_step}
 use Rattle.script_text.specs.Responses.{refused_with, reply_pdu}
-use Rattle.script_text.specs.Pushes.{accounts_up, delivery_on, overdue_in, session_at, target_in, timely_in, with_push}
+use Rattle.script_text.specs.Pushes.{accounts_up, delivery_on, is_long, overdue_in, session_at, target_in, timely_in, with_push}
 use Rattle.script_text.specs.Attempts.{Went, all_given_up, concluded, delivered_so, submission_at, unanswered}
 use Rattle.script_text.specs.Receipts.{Mail, Posted, all_posted, posted_for_all, posted_for_any}
 use Rattle.script_text.specs.Prints.{Print, AtOnce, Late, Delivers, Gone, Declined, Ungranted}
@@ -295,7 +295,7 @@ sent_to runner slot taken (Some number) = pushes runner slot taken number (sessi
 
 abbrev pub sent : Runner → Slot → Option Submission → Acted
 sent runner slot None = fails_by runner (concluded runner.node slot unanswered)
-sent runner slot (Some taken) = sent_to runner slot taken (target_in runner.sessions taken.target)
+sent runner slot (Some taken) = sent_to runner slot taken (target_in runner.sessions (is_long taken.text) taken.target)
 
 -- the attempt is granted
 abbrev pub granted : Runner → Input → Acted

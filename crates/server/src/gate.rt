@@ -15,15 +15,21 @@ pub(crate) struct BerthGate<'a> {
     pub(crate) connection: &'a Connection,
     pub(crate) berth: &'a Berth,
     pub(crate) knows_optional: bool,
+    /// Whether the text is too long for a short_message.
+    pub(crate) long: bool,
     /// Whether the deliver_sm was to go out.
     pub(crate) is_sent: bool,
 }
 
 impl BerthGate<'_> {
-    /// The octets as the ESME is to get them: without optional parameters, if it knows none. None if there is no memory for them.
+    /// The octets as the ESME is to get them: without optional parameters, if it knows none. None if there is no memory for them, or if its text would be one of
+    /// those.
     fn fitted(&self, octets: &[u8]) -> Option<Vec<u8>> {
         if self.knows_optional {
             return octets.to_vec(self.alloc).ok();
+        }
+        if self.long {
+            return None;
         }
         without_optional(self.alloc, octets).ok()?
     }

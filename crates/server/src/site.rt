@@ -243,17 +243,26 @@ impl Site {
     }
 
     /// An attempt may be granted: it is given to a worker of the lowest numbered session of its account that has a place in its window. Nothing comes of it if
-    /// no session has. An `Err` is want of memory.
+    /// no session has. A text that is too long for a short_message needs a session that knows optional parameters; if the account has none, any session gets it,
+    /// whose worker lets it fail. An `Err` is want of memory.
     pub(crate) fn offer<R: Wait>(&mut self, rt: &R, attempt: Attempt) -> Result<(), AllocError> {
-        let Attempt { slot, account } = attempt;
-        let Some(pushed) = self.service.push(&account, self.clock, slot) else {
+        let Attempt {
+            slot,
+            account,
+            long,
+        } = attempt;
+        let needs_optional = long && self.knows_optional(&account);
+        let Some(pushed) = self
+            .service
+            .push(&account, needs_optional, self.clock, slot)
+        else {
             return Ok(());
         };
         let Some(connection) = self.connections.get(&pushed.number) else {
             self.service.take_back(pushed.number, pushed.sequence);
             return Ok(());
         };
-        let Some(place) = connection.give(rt, Job { slot, pushed }) else {
+        let Some(place) = connection.give(rt, Job { slot, pushed, long }) else {
             self.service.take_back(pushed.number, pushed.sequence);
             return Ok(());
         };
@@ -263,6 +272,19 @@ impl Site {
         };
         let _ = self.carried.insert(key_of(slot), carriage)?;
         Ok(())
+    }
+
+    /// Whether some session of an account may receive and knows optional parameters.
+    fn knows_optional(&self, account: &SystemId) -> bool {
+        for (_, session) in self.service.sessions() {
+            if session.state().may_receive()
+                && session.knows_optional()
+                && session.account() == Some(account)
+            {
+                return true;
+            }
+        }
+        false
     }
 
     /// The ESME answered to what was pushed on a session.

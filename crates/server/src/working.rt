@@ -50,6 +50,7 @@ fn deliver<'x, S: StableStore, L: Begins, R: Wait + Eprint>(
         connection,
         berth,
         knows_optional: job.pushed.knows_optional,
+        long: job.long,
         is_sent: false,
     };
     let home = Home {

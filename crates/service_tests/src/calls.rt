@@ -86,7 +86,7 @@ fn a_request_waits_or_is_refused(rt: HostRuntime) {
 /// What goes out of the first attempt of the message at a moment.
 fn attempted(rt: &impl Abort, alloc: Global, service: &mut Service, now: Moment) -> Sending {
     let account = sme1(rt, alloc);
-    let pushed = service.push(&account, now, slot(rt));
+    let pushed = service.push(&account, false, now, slot(rt));
     drop(account);
     Sending::Attempt(pushed.expect(rt, "a session"), chain(rt, alloc, ATTEMPTED))
 }
@@ -130,6 +130,27 @@ fn a_message_is_delivered_and_its_receipt_goes_out(rt: HostRuntime) {
     delivers(&rt, alloc, &config, &mut service);
     tells(&rt, alloc, &mut service);
     drop(service);
+}
+
+/// Whether a session that was bound so takes an attempt whose text is long, and then one whose text is not.
+fn takes(rt: &impl Abort, alloc: Global, config: &Config, bind: (&[u8], &[u8])) -> [bool; 2] {
+    let mut service = bound_by(rt, alloc, config, bind);
+    let account = sme1(rt, alloc);
+    let long = service.push(&account, true, at(rt, 0), slot(rt));
+    let short = service.push(&account, false, at(rt, 0), slot(rt));
+    drop(account);
+    drop(service);
+    [long.is_some(), short.is_some()]
+}
+
+#[test]
+fn a_long_text_goes_over_a_session_that_knows_optional_parameters(rt: HostRuntime) {
+    let alloc = rt.alloc();
+    let config = config(&rt, alloc);
+    let new = takes(&rt, alloc, &config, (BIND, BIND_ANSWER));
+    let older = takes(&rt, alloc, &config, (OLDER_BIND, OLDER_BIND_ANSWER));
+    drop(config);
+    assert_same(&rt, &(new, older), &([true, true], [false, true]));
 }
 
 /// How many deliver_sms wait too long after so many seconds.

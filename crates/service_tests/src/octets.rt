@@ -4,6 +4,11 @@
 pub const BIND: &[u8] = b"\0\0\0\x1e\0\0\0\x09\0\0\0\0\0\0\0\x01sme1\0pw1\0\0\x34\0\0\0";
 
 /// Its response: the name CENTRE, and sc_interface_version.
+/// The same with interface_version 0x33, and its answer, without optional parameters.
+pub const OLDER_BIND: &[u8] = b"\0\0\0\x1e\0\0\0\x09\0\0\0\0\0\0\0\x01sme1\0pw1\0\0\x33\0\0\0";
+
+pub const OLDER_BIND_ANSWER: &[u8] = b"\0\0\0\x17\x80\0\0\x09\0\0\0\0\0\0\0\x01CENTRE\0";
+
 pub const BIND_ANSWER: &[u8] =
     b"\0\0\0\x1c\x80\0\0\x09\0\0\0\0\0\0\0\x01CENTRE\0\x02\x10\0\x01\x34";
 

@@ -123,7 +123,7 @@ fn shown(rt: &impl Abort, alloc: Global, ticket: u32) -> Reply {
 /// The attempt of the message goes out.
 fn attempted(rt: &impl Abort, alloc: Global, service: &mut Service) -> Option<Sending> {
     let account = sme1(rt, alloc);
-    let pushed = service.push(&account, at(rt, 0), slot(rt));
+    let pushed = service.push(&account, false, at(rt, 0), slot(rt));
     drop(account);
     Some(Sending::Attempt(pushed?, chain(rt, alloc, ATTEMPTED)))
 }

@@ -94,10 +94,20 @@ pub fn assert_sent(rt: &impl Abort, alloc: Global, sending: Option<Sending>, wan
 
 /// A service at which sme1 is bound as a transceiver on session 1.
 pub fn bound(rt: &impl Abort, alloc: Global, config: &Config) -> Service {
+    bound_by(rt, alloc, config, (BIND, BIND_ANSWER))
+}
+
+/// The same by these octets of a bind, which are answered so.
+pub fn bound_by(
+    rt: &impl Abort,
+    alloc: Global,
+    config: &Config,
+    (bind, answer): (&[u8], &[u8]),
+) -> Service {
     let mut service = Service::none(alloc);
     service.begin(1).expect(rt, "memory");
-    match heard(rt, config, &mut service, BIND) {
-        Heard::Response(response) => assert_response(rt, alloc, config, response, BIND_ANSWER),
+    match heard(rt, config, &mut service, bind) {
+        Heard::Response(response) => assert_response(rt, alloc, config, response, answer),
         _ => panic!(rt; "a response"),
     }
     service

@@ -167,7 +167,7 @@ goes_out_up_to_posts : (most now : ℕ) (account : List ℕ) (mail : Mail) → P
 unfolding goes_out_up_to
 goes_out_up_to_posts zero now account mail = stays_posted mail
 goes_out_up_to_posts (suc more) now account mail =
-    at_both (find (is_for account) mail.waiting) (target_in mail.sessions account) (goes_out_up_to_posts more now account)
+    at_both (find (is_for account) mail.waiting) (target_in mail.sessions false account) (goes_out_up_to_posts more now account)
   where
     at_both : (found : Option Receipt) (target : Option ℕ) → ((next : Mail) → Posts next (goes_out_up_to more now account next)) →
         Posts mail (with_both (rests mail)

@@ -35,7 +35,7 @@ use Rattle.script_text.specs.Left.{followed_by}
 use Rattle.script_text.specs.Attempts.{submission_at}
 use Rattle.script_text.specs.Node.{Node, request_at, step_at, tick_at}
 use Rattle.script_text.specs.Prints.{AtOnce, Declined, Delivers, Gone, Late, Print, Ungranted}
-use Rattle.script_text.specs.Pushes.{accounts_up, delivery_on, session_at, target_in}
+use Rattle.script_text.specs.Pushes.{accounts_up, delivery_on, is_long, session_at, target_in}
 use Rattle.script_text.specs.Runner.{Acted, Runner, answered_by, gone_prints, granted, granted_unless, last_incarnation, mail_of, makes_room}
 use Rattle.script_text.specs.Runner.{declined, no_incarnation, on_delivery, on_grant, on_restart, on_tick, posts, posts_for_all, pushes, restarted, sent}
 use Rattle.script_text.specs.Runner.{sent_to}
@@ -101,7 +101,7 @@ module _ (runner : Runner) where
 
   sent_quiet : (slot : Slot) (taken : Option Submission) → AreQuiet (sent runner slot taken).prints
   sent_quiet slot None = none_quiet
-  sent_quiet slot (Some taken) = sent_to_quiet slot taken (target_in runner.sessions taken.target)
+  sent_quiet slot (Some taken) = sent_to_quiet slot taken (target_in runner.sessions (is_long taken.text) taken.target)
 
 pub grant_quiet : (runner : Runner) (id : ℕ) → AreQuiet (on_grant runner id).prints
 grant_quiet runner id = by_refusal (grant_refusal runner.node.setup runner.node.kept id)

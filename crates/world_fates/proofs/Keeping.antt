@@ -44,7 +44,7 @@ use Rattle.script_text.specs.Left.{followed_by, in_front, rests}
 use Rattle.script_text.specs.Attempts.{Went, all_given_up, concluded, delivered_so, given_up, submission_at, unanswered, went}
 use Rattle.script_text.specs.Node.{Node, request_at, step_at, tick_at}
 use Rattle.script_text.specs.Prints.{AtOnce, Delivers, Gone, Print, Ungranted}
-use Rattle.script_text.specs.Pushes.{accounts_up, delivery_on, overdue_in, pushed_on, session_at, target_in, timely_in, with_push}
+use Rattle.script_text.specs.Pushes.{accounts_up, delivery_on, is_long, overdue_in, pushed_on, session_at, target_in, timely_in, with_push}
 use Rattle.script_text.specs.Receipts.{Mail, Posted, all_posted, goes_out, goes_out_up_to, is_for, posted, posted_for, posted_for_all}
 use Rattle.script_text.specs.Receipts.{posted_for_any, posted_to, reports_on, submitter_of, waits_for, with_both}
 use Rattle.script_text.specs.Runner.{Acted, Came, Owned, Runner, Served, Told, answered_by, came_by, declined, ends, fails_by, gives_up}
@@ -148,7 +148,7 @@ goes_out_up_to_posts : (most now : ℕ) (account : List ℕ) (mail : Mail) → A
 unfolding goes_out_up_to
 goes_out_up_to_posts zero now account mail apart = stays_posted mail apart
 goes_out_up_to_posts (suc more) now account mail apart =
-    at_both (find (is_for account) mail.waiting) (target_in mail.sessions account) (goes_out_up_to_posts more now account)
+    at_both (find (is_for account) mail.waiting) (target_in mail.sessions false account) (goes_out_up_to_posts more now account)
   where
     at_both : (found : Option Receipt) (target : Option ℕ) →
         ((next : Mail) → AreApart next.sessions → Posts next (goes_out_up_to more now account next)) →
@@ -834,7 +834,7 @@ module _ (runner : Runner) (id : ℕ) (apart : AreApart runner.sessions) where
 
   sent_granting : (taken : Option Submission) → IsGranting runner id (grants_then (sent one.next slot_now taken))
   sent_granting None = fails_granting
-  sent_granting (Some taken) = sent_to_granting taken (target_in runner.sessions taken.target)
+  sent_granting (Some taken) = sent_to_granting taken (target_in runner.sessions (is_long taken.text) taken.target)
 
   pub grant_granting : IsGranting runner id (on_grant runner id)
   grant_granting = by_refusal (grant_refusal runner.node.setup runner.node.kept id)

@@ -50,7 +50,7 @@ use Rattle.script_text.specs.Left.{followed_by, rests}
 use Rattle.script_text.specs.Attempts.{Went, all_given_up, concluded, delivered_so, given_up, submission_at, unanswered, went}
 use Rattle.script_text.specs.Node.{Node, step_at, tick_at, with_step}
 use Rattle.script_text.specs.Prints.{AtOnce, Declined, Delivers, Gone, Late, Print, Ungranted}
-use Rattle.script_text.specs.Pushes.{accounts_up, delivery_on, overdue_in, session_at, target_in, timely_in}
+use Rattle.script_text.specs.Pushes.{accounts_up, delivery_on, is_long, overdue_in, session_at, target_in, timely_in}
 use Rattle.script_text.specs.Receipts.{Posted}
 use Rattle.script_text.specs.Responses.{reply_pdu}
 use Rattle.script_text.specs.Runner.{Acted, Came, Runner, Served, answered_by, came_by, declined, ends, fails_by, gives_up, gone_prints}
@@ -688,7 +688,7 @@ module _ (cluster : Cluster) (m : ℕ) (first : List NodeInput) where
 
       sent_well : (slot : Slot) (taken : Option Submission) → ActsWell past (sent runner slot taken)
       sent_well slot None = fails_well slot
-      sent_well slot (Some taken) = sent_to_well slot taken (target_in runner.sessions taken.target)
+      sent_well slot (Some taken) = sent_to_well slot taken (target_in runner.sessions (is_long taken.text) taken.target)
 
     pub grant_well : (past : List NodeInput) (runner : Runner) (id : ℕ) → ServesWell past runner → ActsWell past (on_grant runner id)
     grant_well past runner id s = by_refusal (grant_refusal runner.node.setup runner.node.kept id)

@@ -27,7 +27,7 @@ use Rattle.std.specs.Map.{remove_entry}
 use Rattle.std.specs.Ordering.{nat_cmp}
 use Rattle.std.specs.BTreeMap.{is_at}
 use Rattle.sessions.specs.States.{is_gone}
-use Rattle.script_text.specs.Pushes.{accounts_up, overdue_in, session_at, target_in}
+use Rattle.script_text.specs.Pushes.{accounts_up, is_long, overdue_in, session_at, target_in}
 use Rattle.script_text.specs.Receipts.{Posted, all_posted, posted_for_all, posted_for_any}
 use Rattle.script_text.specs.Runner.{Runner, Acted, Served, answered_by, declined, ends, fails_by, gives_up, gone_prints}
 use Rattle.script_text.specs.Runner.{granted, granted_unless, held_in, holds, last_incarnation, mail_of, makes_room, no_incarnation}
@@ -271,7 +271,7 @@ module _ (member : Member) (Tells : FactOfPrints) (telling : IsTelling member.cl
     sent_acts : (slot : Slot) (taken : Option Submission) → ((message : Submission) → taken ≡ Some message → WasSubmitted past message) →
         ActsSo member Tells past true (sent runner slot taken)
     sent_acts slot None submitted = fails_acts slot
-    sent_acts slot (Some taken) submitted = sent_to_acts slot taken (submitted taken refl) (target_in runner.sessions taken.target)
+    sent_acts slot (Some taken) submitted = sent_to_acts slot taken (submitted taken refl) (target_in runner.sessions (is_long taken.text) taken.target)
 
   -- what the node knows of a message was submitted
   submitted_here : (past : List NodeInput) (runner : Runner) (id : ℕ) → IsServing past runner → (message : Submission) →

@@ -29,9 +29,9 @@ use Rattle.pdu_bodies.specs.declared.pdu.Body.TheVariants as bodies
 use Rattle.pdu_bodies.specs.declared.pdu.Message.{Message}
 use Rattle.pdu_bodies.specs.declared.pdu.Pdu.{Pdu}
 use Rattle.pdu_codec.specs.Pdu.{has_wrong_length, read_pdu}
-use Rattle.desk.specs.Admissions.{asks_about, taken_as}
-use Rattle.desk.specs.Arrivals.{judged_as, next_id, requested}
-use Rattle.desk.specs.Desk.{submission_of}
+use Rattle.desk.specs.Admissions.{asks_about, routed_as, taken_as}
+use Rattle.desk.specs.Arrivals.{door_at, judged_as, next_id, requested}
+use Rattle.desk.specs.Desk.{is_too_long, submission_of}
 use Rattle.desk.specs.Times.{Times}
 use Rattle.desk.specs.declared.request.Request.{Request as Asked}
 use Rattle.desk.specs.declared.request.Request.TheVariants as asked
@@ -185,8 +185,13 @@ taken_comes next account target message clear (Ok times) id taken is =
 
 pub requested_clear : (setup : Setup) (k : Kept) (account : List ℕ) (request : Asked) → IsClearRequest (Some request) →
     ComesClear (requested setup k account request)
-requested_clear setup k account (asked.Submit message None) clear = refusal_comes _
-requested_clear setup k account (asked.Submit message (Some target)) clear = taken_comes (next_id setup k) account target message clear _
+requested_clear setup k account (asked.Submit message target) clear = by_length (is_too_long message) target
+  where
+    by_length : (long : Bool) (target : Option (List ℕ)) →
+        ComesClear (judged_as (if long then Err statuses.InvalidMessageLength else routed_as (door_at setup k) (next_id setup k) account message target))
+    by_length true target = refusal_comes _
+    by_length false None = refusal_comes _
+    by_length false (Some target) = taken_comes (next_id setup k) account target message clear _
 requested_clear setup k account (asked.Ask query) clear =
     asked_comes (λ id. Query id account query.source.digits) (λ about id message is. cc) _
 requested_clear setup k account (asked.Cancel cancel) clear = by_test (bytes_eq cancel.message_id []) _

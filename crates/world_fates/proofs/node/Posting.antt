@@ -87,7 +87,7 @@ module _ (cluster : Cluster) (Tells : FactOfPrints) (telling : IsTelling cluster
   unfolding goes_out_up_to
   goes_out_up_to_so zero now account mail out = stays_so mail out
   goes_out_up_to_so (suc more) now account mail out =
-      at_both (find (is_for account) mail.waiting) (target_in mail.sessions account) refl (goes_out_up_to_so more now account)
+      at_both (find (is_for account) mail.waiting) (target_in mail.sessions false account) refl (goes_out_up_to_so more now account)
     where
       at_both : (found : Option Receipt) (target : Option ℕ) → find (is_for account) mail.waiting ≡ found →
           ((next : Mail) → AreOut next.waiting → PostsSo (goes_out_up_to more now account next)) →

@@ -1,15 +1,22 @@
-use Rattle.std.proofs.Common.{Option, Some, ap, sym, ◌∙◌}
+use Rattle.std.proofs.Common.{Err, Option, Some, ap, sym, ◌∙◌}
 use Rattle.std.specs.Prelude.{option_map}
 use Rattle.pdu_codec.specs.Pdu.{octets_of}
-use Rattle.receipts.specs.Receipts.{receipt_message}
+use Rattle.receipts.specs.Receipts.{HasFate, receipt_message}
 use Rattle.receipts.specs.Texts.{Report}
 use Rattle.esme_service.specs.Sendings.{report_octets}
-use Rattle.esme_service.proofs.Reporting.{reported_so}
+use Rattle.esme_service.proofs.Reporting.{asked_reports, reported_so}
 use Rattle.esme_service.proofs.delivering.receipt_octets.Goals as goal
 
-pub returns-in_ok-encoded-in-Ok : goal.returns-in_ok-encoded-in-Ok
-returns-in_ok-encoded-in-Ok c =
+pub returns-in_ok-encoded-in-Ok-clause-octets : goal.returns-in_ok-encoded-in-Ok-clause-octets
+returns-in_ok-encoded-in-Ok-clause-octets c =
     let is = c.in-Ok.ensures.pdu in
     ap Some (c.in_ok-encoded-in-Ok.ensures ∙ ap octets_of (c.fitted.ensures (receipt_message is.report) is.pdu_is))
     ∙ ap (λ (found : Option Report). option_map (report_octets c.args.pushed.sequence c.args.pushed.knows_optional) found)
     (sym (reported_so c.args.chain.now is.report is.reports is.asked))
+
+pub returns-in-Err-Memory-clause-none : goal.returns-in-Err-Memory-clause-none
+returns-in-Err-Memory-clause-none c = λ none.
+    let memory = c.in-Err-Memory.is ∙ ap Err c.in-Err-Memory.field-0-is in
+    let fateless : HasFate c.args.chain.now.decrees → ⊥ = λ fate.
+    (let said = c.receipt_pdu.ensures.not_asked.1 (fate, λ asked. asked_reports c.args.chain.now.id c.args.chain.now.decrees asked none) in cc) in
+    absurd (let said = c.receipt_pdu.ensures.no_fate.1 fateless in cc)

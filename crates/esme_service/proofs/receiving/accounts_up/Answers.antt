@@ -1,7 +1,7 @@
 use Rattle.std.proofs.Common.{◌++◌, None, Some, ◌∙◌, sym, ap}
 use Rattle.std.proofs.lemmas.List.{append-nil}
 use Rattle.esme_service.specs.Pushes.{accounts_up, receiver_of}
-use Rattle.esme_service.proofs.Receivers.{accounts_from, all_accounts, no_account, one_looked_at}
+use Rattle.esme_service.proofs.Receivers.{accounts_from, all_accounts, no_account, no_account_found, one_looked_at}
 use Rattle.esme_service.proofs.receiving.accounts_up.Goals.{in-Some+in_ok-copy+in_ok-push, in_default}
 use Rattle.esme_service.proofs.receiving.accounts_up.Goals as goal
 
@@ -23,8 +23,18 @@ loop-number-preserved c =
           (w.in_default.ensures ∙ ap receiver_of c.get.ensures.value) ((λ i. (w.accounts-is i).items) ∙ sym (append-nil c.loop-number.accounts.items))
     ]
 
-pub returns : goal.returns
-returns c =
+pub returns-clause-up : goal.returns-clause-up
+returns-clause-up c =
     sym (append-nil c.loop-number.accounts.items)
     ∙ ap (λ rest. c.loop-number.accounts.items ++ rest) (sym (no_account c.args.sessions.now.entries c.loop-number.number-counter c.loop-number-test.false))
     ∙ c.loop-number.invariant
+
+pub returns-in_err-copy-clause-none : goal.returns-in_err-copy-clause-none
+returns-in_err-copy-clause-none c = λ none.
+    absurd (no_account_found c.args.sessions.now.entries c.loop-number.number-counter c.in-Some.account.now c.loop-number.accounts.items
+    (accounts_up c.args.sessions.now.entries) c.loop-number-test.true c.loop-number.invariant (c.in-Some.ensures ∙ ap receiver_of c.get.ensures.value) none)
+
+pub returns-in_err-push-clause-none : goal.returns-in_err-push-clause-none
+returns-in_err-push-clause-none c = λ none.
+    absurd (no_account_found c.args.sessions.now.entries c.loop-number.number-counter c.in-Some.account.now c.loop-number.accounts.items
+    (accounts_up c.args.sessions.now.entries) c.loop-number-test.true c.loop-number.invariant (c.in-Some.ensures ∙ ap receiver_of c.get.ensures.value) none)

@@ -4,19 +4,19 @@ use Rattle.esme_service.proofs.Receivers.{first_target, next_target, no_target}
 use Rattle.esme_service.proofs.receiving.target_in.Goals as goal
 
 pub loop-number-init : goal.loop-number-init
-loop-number-init c = first_target c.args.sessions.now.entries c.args.target.now
+loop-number-init c = first_target c.args.sessions.now.entries c.args.long c.args.target.now
 
 pub returns-then-takes_for : goal.returns-then-takes_for
 returns-then-takes_for c =
-    sym (next_target c.args.sessions.now.entries c.args.target.now c.loop-number.number-counter true c.loop-number-test.true
-    (c.if-takes_for.ensures ∙ ap (takes_for c.args.target.now) c.get.ensures.value))
+    sym (next_target c.args.sessions.now.entries c.args.long c.args.target.now c.loop-number.number-counter true c.loop-number-test.true
+    (c.if-takes_for.ensures ∙ ap (takes_for c.args.long c.args.target.now) c.get.ensures.value))
     ∙ c.loop-number.invariant
 
 pub loop-number-preserved : goal.loop-number-preserved
 loop-number-preserved c =
-    sym (next_target c.args.sessions.now.entries c.args.target.now c.loop-number.number-counter false c.loop-number-test.true
-    (c.if-takes_for.ensures ∙ ap (takes_for c.args.target.now) c.get.ensures.value))
+    sym (next_target c.args.sessions.now.entries c.args.long c.args.target.now c.loop-number.number-counter false c.loop-number-test.true
+    (c.if-takes_for.ensures ∙ ap (takes_for c.args.long c.args.target.now) c.get.ensures.value))
     ∙ c.loop-number.invariant
 
 pub returns : goal.returns
-returns c = sym (no_target c.args.sessions.now.entries c.args.target.now c.loop-number.number-counter c.loop-number-test.false) ∙ c.loop-number.invariant
+returns c = sym (no_target c.args.sessions.now.entries c.args.long c.args.target.now c.loop-number.number-counter c.loop-number-test.false) ∙ c.loop-number.invariant

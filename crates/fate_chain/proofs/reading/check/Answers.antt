@@ -11,8 +11,8 @@ returns-in-Err c =
     let known = c.loop-left.invariant in
     let defect = c.in-Err.field-0 in (
       defect,
-      chain_at-err c.args.id c.args.count c.args.octets.now defect
-          (so-far-err c.args.count c.args.octets.now c.loop-left.left known.read c.loop-left.rest.now defect known.so_far
+      chain_at-err c.args.head.now.format c.args.head.now.id c.args.head.now.count c.args.head.now.decrees.now defect
+          (so-far-err c.args.head.now.format c.args.head.now.count c.args.head.now.decrees.now c.loop-left.left known.read c.loop-left.rest.now defect known.so_far
           c.loop-left-test.true c.in-Err.ensures.read),
     )
 
@@ -22,7 +22,7 @@ loop-left-preserved c =
     let x : Decree × List ℕ = (decree_seen c.in-Ok.found.0, c.in-Ok.found.1.now) in
     record {
       read = x.0 ∷ known.read;
-      so_far = so-far-more c.args.count c.args.octets.now c.loop-left.left known.read c.loop-left.rest.now x known.so_far
+      so_far = so-far-more c.args.head.now.format c.args.head.now.count c.args.head.now.decrees.now c.loop-left.left known.read c.loop-left.rest.now x known.so_far
           c.loop-left-test.true c.in-Ok.ensures.read;
       comes = c.after-progress.ensures known.read x.0 known.comes c.mark.ensures;
     }
@@ -31,28 +31,28 @@ pub returns-then-not-is_empty : goal.returns-then-not-is_empty
 returns-then-not-is_empty c =
     let known = c.loop-left.invariant in (
       Extra,
-      chain_at-more c.args.id c.args.count c.args.octets.now known.read c.loop-left.rest.now
-          (so-far-all c.args.count c.args.octets.now c.loop-left.left known.read c.loop-left.rest.now known.so_far c.loop-left-test.false)
+      chain_at-more c.args.head.now.format c.args.head.now.id c.args.head.now.count c.args.head.now.decrees.now known.read c.loop-left.rest.now
+          (so-far-all c.args.head.now.format c.args.head.now.count c.args.head.now.decrees.now c.loop-left.left known.read c.loop-left.rest.now known.so_far c.loop-left-test.false)
           (something_left c.loop-left.rest.now (sym c.if-not-is_empty.ensures)),
     )
 
 pub returns-in-Stands : goal.returns-in-Stands
 returns-in-Stands c =
     let known = c.loop-left.invariant in
-    let all = so-far-all c.args.count c.args.octets.now c.loop-left.left known.read c.loop-left.rest.now known.so_far c.loop-left-test.false in (
-      record { id = c.args.id; decrees = known.read },
-      chain_at-all c.args.id c.args.count c.args.octets.now known.read c.loop-left.rest.now all
+    let all = so-far-all c.args.head.now.format c.args.head.now.count c.args.head.now.decrees.now c.loop-left.left known.read c.loop-left.rest.now known.so_far c.loop-left-test.false in (
+      record { id = c.args.head.now.id; decrees = known.read },
+      chain_at-all c.args.head.now.format c.args.head.now.id c.args.head.now.count c.args.head.now.decrees.now known.read c.loop-left.rest.now all
           (nothing_left c.loop-left.rest.now (sym c.if-not-is_empty.ensures)),
-      progress-stands c.args.id known.read c.loop-left.progress c.in-Stands.field-0 known.comes c.in-Stands.is,
+      progress-stands c.args.head.now.id known.read c.loop-left.progress c.in-Stands.field-0 known.comes c.in-Stands.is,
       tt,
     )
 
 pub returns-in_default : goal.returns-in_default
 returns-in_default c =
     let known = c.loop-left.invariant in
-    let all = so-far-all c.args.count c.args.octets.now c.loop-left.left known.read c.loop-left.rest.now known.so_far c.loop-left-test.false in (
-      record { id = c.args.id; decrees = known.read },
-      chain_at-all c.args.id c.args.count c.args.octets.now known.read c.loop-left.rest.now all
+    let all = so-far-all c.args.head.now.format c.args.head.now.count c.args.head.now.decrees.now c.loop-left.left known.read c.loop-left.rest.now known.so_far c.loop-left-test.false in (
+      record { id = c.args.head.now.id; decrees = known.read },
+      chain_at-all c.args.head.now.format c.args.head.now.id c.args.head.now.count c.args.head.now.decrees.now known.read c.loop-left.rest.now all
           (nothing_left c.loop-left.rest.now (sym c.if-not-is_empty.ensures)),
-      progress-fails c.args.id known.read c.loop-left.progress known.comes c.in_default.not-Stands,
+      progress-fails c.args.head.now.id known.read c.loop-left.progress known.comes c.in_default.not-Stands,
     )

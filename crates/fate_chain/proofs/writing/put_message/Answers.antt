@@ -9,6 +9,7 @@ returns-clause-fits c =
     record {
       parties = c.in_ok-put_parties.ensures.limits;
       handling = c.in_ok-put_handling.ensures.limits;
-      texts = ((texts.short, refl), ((omega (arith, passed.most), ap is_ok (optional-again _ passed)), tt));
+      texts = ((texts.content.most, refl), ((omega (arith, passed.most), ap is_ok (optional-again _ passed)), tt));
+      beside = texts.content.beside;
       passed = passed;
     }

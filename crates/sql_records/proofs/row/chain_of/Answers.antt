@@ -10,6 +10,10 @@ returns-in-Err-NotPermitted-clause-damaged c is chain stands =
     let same = c.octets_are_of_one_chain.ensures c.args.octets.now told.0 chain told.1 stands.spelled in
     told.2 (subst (λ (one : Chain). IsPermitted one.id one.decrees) (sym same) stands.permitted)
 
+pub returns-in-Err-NotBytes-clause-damaged : goal.returns-in-Err-NotBytes-clause-damaged
+returns-in-Err-NotBytes-clause-damaged c is chain stands =
+    (rw c.in-Err-NotBytes.field-0-is at c.in-Err-NotBytes.ensures.not_bytes).0 (search rules) chain stands.spelled
+
 not_false : (b : Bool) → false ≡ not b → b ≡ true
 not_false true is = refl
 not_false false is = absurd (cc)
