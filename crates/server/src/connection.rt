@@ -9,9 +9,17 @@ use std::alloc::{AllocError, Global};
 use std::net::{Shutdown, TcpStream};
 use std::sync::atomic::{AtomicBool, Ordering};
 use std::sync::{Condvar, Mutex, Wait};
+use std::thread;
+use std::time::Duration;
 
 /// How many deliveries of a connection are under way at most: as many as its window has places.
 pub(crate) const WORKERS: usize = 10;
+
+/// How often it is looked whether what waits on a connection has gone out, once its session is over: for 30 seconds.
+const LAST_LOOKS: usize = 600;
+
+/// How long it is slept between two looks, in milliseconds.
+const LAST_PAUSE: u64 = 50;
 
 /// A connection with an ESME: its stream, what came and waits to be served, what waits to be written, and the places of its workers. Threads share it: who reads
 /// and who writes from its begin to its end, who serves and the workers in each life of their node.
@@ -26,6 +34,8 @@ pub(crate) struct Connection {
     came: Condvar,
     outbox: Mutex<FrameQueue>,
     changed: Condvar,
+    /// Whether nothing is written any more.
+    is_through: AtomicBool,
     berths: Vec<Berth>,
     /// Whether who serves and the workers rest, until the next life of their node.
     rests: AtomicBool,
@@ -53,6 +63,7 @@ impl Connection {
             came: Condvar::new(),
             outbox: Mutex::new(FrameQueue::make(alloc)?),
             changed: Condvar::new(),
+            is_through: AtomicBool::new(false),
             berths,
             rests: AtomicBool::new(false),
             is_attended: AtomicBool::new(false),
@@ -136,6 +147,24 @@ impl Connection {
             }
         }
         let _ = self.stream.shutdown(Shutdown::Both);
+        self.is_through.store(true, Ordering::SeqCst);
+    }
+
+    /// Waits until the session is over and what waited has gone out. What did not 30 seconds after its end is dropped, whatever the limit of a write: else an
+    /// ESME that takes nothing would keep a thread for each session that it had.
+    pub(crate) fn see_off<R: Wait>(&self, rt: &R) {
+        let outbox = self.outbox.lock(rt);
+        drop(
+            self.changed
+                .wait_while(rt, outbox, |outbox| !outbox.is_shut()),
+        );
+        for _ in 0..LAST_LOOKS {
+            if self.is_through.load(Ordering::SeqCst) {
+                return;
+            }
+            thread::sleep(rt, Duration::from_millis(LAST_PAUSE));
+        }
+        self.lose(rt);
     }
 
     /// The next PDU to be written, for which it waits; none once nothing is to come any more.
@@ -152,13 +181,14 @@ impl Connection {
 
     // Its end, and its rest.
 
-    /// Nothing more is to be served, nor to be written but what waits, and no worker delivers on it any more.
+    /// Nothing more is to be served, nor to be written but what waits, and no worker delivers on it any more. Who reads reads its end.
     pub(crate) fn finish<R: Wait>(&self, rt: &R) {
         self.inbox.lock(rt).cut();
         self.came.notify_all();
         self.outbox.lock(rt).shut();
         self.changed.notify_all();
         self.shut_berths(rt);
+        self.stop_reading();
     }
 
     /// The connection is lost: what waits to be written is dropped, and nothing more comes.

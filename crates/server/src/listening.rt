@@ -18,9 +18,6 @@ use std::{io, thread};
 /// How many sessions a node has at most.
 const MOST_SESSIONS: u32 = 99;
 
-/// How many seconds a write may take, if the configuration does not say it.
-const WRITE_SECONDS: u32 = 30;
-
 /// How long the thread that listens sleeps if nobody connects, in milliseconds.
 const PAUSE: u64 = 20;
 
@@ -110,19 +107,15 @@ fn most_sessions(limit: u32) -> u8 {
     limit.min(MOST_SESSIONS) as u8
 }
 
-/// How long a read and a write on a stream may take.
+/// Sets how long a read and a write on a stream may take, as the configuration says.
 fn set_up(house: &House, stream: &TcpStream) -> io::Result<()> {
-    let own = house.own;
     stream.set_nonblocking(false)?;
     stream.set_nodelay(true)?;
-    let seconds = if own.write_seconds == 0 {
-        WRITE_SECONDS
-    } else {
-        own.write_seconds
-    };
-    stream.set_write_timeout(Some(Duration::from_secs(u64::from(seconds))))?;
-    if own.idle_seconds > 0 {
-        stream.set_read_timeout(Some(Duration::from_secs(u64::from(own.idle_seconds))))?;
-    }
-    Ok(())
+    stream.set_write_timeout(limit(house.own.write_seconds))?;
+    stream.set_read_timeout(limit(house.own.idle_seconds))
+}
+
+/// As much time as a limit of so many seconds leaves, or None for 0: no limit.
+fn limit(seconds: u32) -> Option<Duration> {
+    (seconds > 0).then(|| Duration::from_secs(u64::from(seconds)))
 }
