@@ -7,6 +7,7 @@ use connection_parts::{FrameQueue, Job};
 use octet_io::CountedWriter;
 use std::alloc::{AllocError, Global};
 use std::net::{Shutdown, TcpStream};
+use std::rt::Clock;
 use std::sync::atomic::{AtomicBool, Ordering};
 use std::sync::{Condvar, Mutex, Wait};
 use std::thread;
@@ -152,7 +153,7 @@ impl Connection {
 
     /// Waits until the session is over and what waited has gone out. What did not 30 seconds after its end is dropped, whatever the limit of a write: else an
     /// ESME that takes nothing would keep a thread for each session that it had.
-    pub(crate) fn see_off<R: Wait>(&self, rt: &R) {
+    pub(crate) fn see_off<R: Wait + Clock>(&self, rt: &R) {
         let outbox = self.outbox.lock(rt);
         drop(
             self.changed

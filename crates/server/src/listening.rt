@@ -46,7 +46,7 @@ pub(crate) fn listen_on<'o, O, R: Threads + Wait + Eprint + Clock + Sync>(
 }
 
 /// Starts the threads of a connection. An `Err` is that one can't be started.
-fn start<'o, O, R: Threads + Wait + Sync>(
+fn start<'o, O, R: Threads + Wait + Clock + Sync>(
     rt: &'o R,
     outer: &'o Scope<'o, O>,
     house: &House,

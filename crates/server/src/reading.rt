@@ -7,10 +7,11 @@ use octet_io::CountedReader;
 use pdu_frames::Framer;
 use std::alloc::Global;
 use std::net::TcpStream;
+use std::rt::Clock;
 use std::sync::Wait;
 
 /// Reads one PDU after another for who serves them, until nothing more comes or nobody serves, and sees the connection off.
-pub(crate) fn read_all<R: Wait>(rt: &R, alloc: Global, connection: &Connection) {
+pub(crate) fn read_all<R: Wait + Clock>(rt: &R, alloc: Global, connection: &Connection) {
     let reason = read_on(rt, alloc, connection);
     connection.end_input(rt, reason);
     connection.see_off(rt);

@@ -47,7 +47,7 @@ fn start_listener<'o, O, R: Threads + Wait + Eprint + Clock + Sync>(
 }
 
 /// Starts the thread that reads a connection. An `Err` if none can be started.
-pub(crate) fn start_reader<'o, O, R: Threads + Wait + Sync>(
+pub(crate) fn start_reader<'o, O, R: Threads + Wait + Clock + Sync>(
     rt: &'o R,
     outer: &'o Scope<'o, O>,
     alloc: Global,
