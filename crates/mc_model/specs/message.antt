@@ -2,5 +2,6 @@
 pub mod Ids
 pub mod Submission
 pub mod Decree
+pub mod Receipts
 pub mod Neighbours
 pub mod Chain

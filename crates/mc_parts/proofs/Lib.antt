@@ -1,6 +1,7 @@
 pub mod Majorities
 pub mod Stable
 pub mod Fates
+pub mod Tellings
 pub mod Lengths
 pub mod Membership
 pub mod Known

@@ -1,13 +1,14 @@
 -- What a node knows gives a request one answer at most.
-use Rattle.std.proofs.Common.{◌≡◌, ℕ, List, Some, refl, sym, ◌∙◌, ap, subst}
+use Rattle.std.proofs.Common.{◌≡◌, ℕ, List, Option, Some, refl, sym, ◌∙◌, ap, subst}
 use Rattle.mc_model.specs.message.Submission.{Submission}
-use Rattle.mc_model.specs.message.Decree.{Decree, Kind, Taken, Attempt, Failed, Fate, Delivered, Expired, Deleted, Undeliverable, Rejected}
-use Rattle.mc_model.specs.message.Chain.{taken_in, final_in, final_by}
+use Rattle.mc_model.specs.message.Decree.{Decree, Kind, Final, Taken, Attempt, Failed, Fate, Told, Delivered, Expired, Deleted, Undeliverable, Rejected}
+use Rattle.mc_model.specs.message.Chain.{taken_in, final_in, final_by, untold}
 use Rattle.mc_model.specs.node.Actor.{Actor, Request, Submit, Query, Cancel, Waiting, id_in}
 use Rattle.mc_model.specs.node.Knowledge.{Knows, KnowsNothing}
 use Rattle.mc_model.specs.node.Proposal.{IsOwner, IsMatch}
 use Rattle.mc_model.specs.node.Replies.{Answer, Accepted, Shown, Removed, Kept, NotOwner, NotMatched, Unknown, KeepsMessage, FitsSubmit}
 use Rattle.mc_model.specs.node.Replies.{FitsQuery, FitsCancel, FitsRequest}
+use Rattle.mc_parts.proofs.Fates.{state_of_untold}
 use Rattle.mc_parts.proofs.Known.{knows_one}
 
 -- what is known is not unknown
@@ -23,15 +24,16 @@ one_taken nodes a id one other first second knows also is_first is_second =
     cc
 
 -- what deletes a message does not keep it
-not_kept : (kind : Kind) → final_by kind ≡ Some Deleted → KeepsMessage kind → ⊥
-not_kept (Taken message) is kept = kept
-not_kept (Attempt number) is kept = cc
-not_kept (Failed error) is kept = kept
-not_kept (Fate Delivered error) is kept = cc
-not_kept (Fate Expired error) is kept = cc
-not_kept (Fate Deleted error) is kept = kept
-not_kept (Fate Undeliverable error) is kept = cc
-not_kept (Fate Rejected error) is kept = cc
+not_kept : (kind : Kind) (older : Option Final) → final_by kind older ≡ Some Deleted → KeepsMessage kind → ⊥
+not_kept (Taken message) older is kept = kept
+not_kept (Attempt number) older is kept = cc
+not_kept (Failed error) older is kept = kept
+not_kept (Fate Delivered error) older is kept = cc
+not_kept (Fate Expired error) older is kept = cc
+not_kept (Fate Deleted error) older is kept = kept
+not_kept (Fate Undeliverable error) older is kept = cc
+not_kept (Fate Rejected error) older is kept = cc
+not_kept Told older is kept = kept
 
 one_submit : (nodes : ℕ) (a : Actor) (id : ℕ) (one other : Answer) → FitsSubmit nodes a id one → FitsSubmit nodes a id other → one ≡ other
 one_submit nodes a id Accepted Accepted x y = refl
@@ -69,7 +71,7 @@ module _ (nodes node : ℕ) (a : Actor) (w : Waiting) where
       ⊥
   removed_or_kept account source destination chain kept x y =
       let same = knows_one nodes a.received id chain kept x.known y.known in
-      not_kept y.newest.kind (ap final_in (sym (same ∙ y.chain_is)) ∙ x.deleted) y.kept
+      not_kept y.newest.kind _ (ap final_in (sym (ap untold same ∙ y.chain_is)) ∙ (state_of_untold chain ∙ x.deleted)) y.kept
 
   matched_or_not : (account source destination : List ℕ) (one other : List Decree) (first second : Submission) →
       Knows nodes a.received id one → Knows nodes a.received id other → taken_in one ≡ Some first → taken_in other ≡ Some second →

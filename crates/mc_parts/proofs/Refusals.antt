@@ -1,7 +1,7 @@
 -- An attempt is granted, or refused by exactly one number.
-use Rattle.std.proofs.Common.{◌≡◌, ◌⊎◌, ℕ, true, false, List, [], ◌∷◌, Option, Some, None, refl, sym, ◌∙◌, ap, subst, inl, inr}
+use Rattle.std.proofs.Common.{◌≡◌, ◌⊎◌, ℕ, false, List, [], ◌∷◌, Option, Some, None, refl, sym, ◌∙◌, ap, subst, inl, inr}
 use Rattle.std.proofs.lemmas.Bool.{cases_eq, true≢false, cases_Bool}
-use Rattle.mc_model.specs.message.Decree.{Author, Decree, Kind, Taken, Attempt, Failed, Fate}
+use Rattle.mc_model.specs.message.Decree.{Author, Decree, Kind, Taken, Attempt, Failed, Fate, Told}
 use Rattle.mc_model.specs.synod.Lists.{In}
 use Rattle.mc_model.specs.synod.Packet.{Slot, slot_of, same_slot}
 use Rattle.mc_model.specs.node.Outcome.{Outcome}
@@ -223,6 +223,8 @@ known_judged nodes node a id newest older (Failed error) is known =
     inr (NotChosen, no_attempt nodes a id newest older known (λ number attempt. let clash : Failed error ≡ Attempt number = sym is ∙ attempt in cc))
 known_judged nodes node a id newest older (Fate final error) is known =
     inr (NotChosen, no_attempt nodes a id newest older known (λ number attempt. let clash : Fate final error ≡ Attempt number = sym is ∙ attempt in cc))
+known_judged nodes node a id newest older Told is known =
+    inr (NotChosen, no_attempt nodes a id newest older known (λ number attempt. let clash : Told ≡ Attempt number = sym is ∙ attempt in cc))
 
 pub judged : (nodes node : ℕ) (a : Actor) (id : ℕ) (known : Option (List Decree)) → IsKnown nodes a.received id known → Judged nodes node a id
 judged nodes node a id None nothing = inr (NotChosen, λ newest older ends. nothing _ _ ends.known.learned)

@@ -2,7 +2,7 @@
 use Rattle.std.specs.Prelude.{ℕ, ◌+◌, List, [], ◌∷◌}
 use Rattle.mc_model.specs.message.Ids.{node_of, incarnation_of}
 use Rattle.mc_model.specs.message.Submission.{Submission}
-use Rattle.mc_model.specs.message.Decree.{Kind, Taken, Attempt, Failed, Fate, Delivered, Decree}
+use Rattle.mc_model.specs.message.Decree.{Kind, Taken, Attempt, Failed, Fate, Told, Delivered, Decree}
 
 -- a decree by the node and incarnation that the id names
 abbrev pub decree_by : ℕ → ℕ → Kind → Decree
@@ -21,3 +21,7 @@ delivered_at_second id moment message =
     ∷ decree_by id moment (Attempt 1)
     ∷ decree_by id moment (Taken message)
     ∷ []
+
+-- and its receipt is told
+abbrev pub told_at_second : ℕ → ℕ → Submission → List Decree
+told_at_second id moment message = decree_by id (moment + 60) Told ∷ delivered_at_second id moment message

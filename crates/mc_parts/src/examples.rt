@@ -4,8 +4,9 @@ ghost use Rattle.std.specs.Prelude.{◌≡◌, ◌+◌, ◌<◌, ◌≤◌, ℕ,
 ghost use Rattle.mc_model.specs.message.Ids.{IsNode, IsIncarnation, IsSerial, IsId, id_of, node_of, incarnation_of, serial_of};
 ghost use Rattle.mc_model.specs.message.Submission.{Submission};
 ghost use Rattle.mc_model.specs.message.Decree.{Delivered};
+ghost use Rattle.mc_model.specs.message.Receipts.{AsksReceipt};
 ghost use Rattle.mc_model.specs.message.Chain.{IsPermitted, taken_in, final_in};
-ghost use Rattle.mc_parts.specs.Example.{delivered_at_second};
+ghost use Rattle.mc_parts.specs.Example.{delivered_at_second, told_at_second};
 
 /// A node, an incarnation and a serial make an id that has them, and each id is made of those that it has.
 pub fn ids_have_their_parts()
@@ -26,7 +27,7 @@ pub fn ids_have_their_parts()
 {}
 
 /// A message may be taken from its schedule on, attempted, fail, be attempted again a minute later and be delivered then, each
-/// by the node and incarnation that its id names.
+/// by the node and incarnation that its id names; and if a receipt is asked, that is told.
 pub fn a_chain_of_each_kind_is_permitted()
     ensures permitted { (id moment : ℕ) (message : Submission) →
         message.schedule ≤ moment → moment + 60 < message.expiry →
@@ -35,4 +36,9 @@ pub fn a_chain_of_each_kind_is_permitted()
         taken_in (delivered_at_second id moment message) ≡ Some message }
     ensures delivered { (id moment : ℕ) (message : Submission) →
         final_in (delivered_at_second id moment message) ≡ Some Delivered }
+    ensures told { (id moment : ℕ) (message : Submission) →
+        message.schedule ≤ moment → moment + 60 < message.expiry → AsksReceipt Delivered message →
+        IsPermitted id (told_at_second id moment message) }
+    ensures stays { (id moment : ℕ) (message : Submission) →
+        final_in (told_at_second id moment message) ≡ Some Delivered }
 {}

@@ -1,7 +1,7 @@
 -- What is said of the fate of a message, and what it stands on.
 use Rattle.std.specs.Prelude.{◌≡◌, ℕ, List, ◌∷◌, ◌++◌, Option, Some, None}
 use Rattle.mc_model.specs.message.Decree.{Attempt, Author, Decree, Delivered, Fate, Final}
-use Rattle.mc_model.specs.message.Chain.{final_in}
+use Rattle.mc_model.specs.message.Chain.{final_in, untold}
 use Rattle.mc_model.specs.synod.Lists.{In}
 use Rattle.mc_model.specs.synod.OneSlot.{vote_at}
 use Rattle.mc_model.specs.synod.Packet.{Slot, slot_of}
@@ -44,14 +44,14 @@ pub record CameBefore (first second : Deed) (deeds : List Deed) : Type 0 where
 abbrev pub deed_by : Author → (Act → Deed)
 deed_by author act = record { node = author.node; incarnation = author.incarnation; act = act }
 
--- A chain that ends in the fate DELIVERED ends in an attempt before it, which was granted and then answered ESME_ROK.
+-- A chain that ends in the fate DELIVERED, told or not, ends in an attempt before it, which was granted and then answered ESME_ROK.
 pub record IsDelivery (id : ℕ) (chain : List Decree) (deeds : List Deed) : Type 0 where
   pub fate : Decree
   pub attempt : Decree
   pub older : List Decree
   pub number : ℕ
   pub error : ℕ
-  pub chain_is : chain ≡ fate ∷ attempt ∷ older
+  pub chain_is : untold chain ≡ fate ∷ attempt ∷ older
   pub attempted : attempt.kind ≡ Attempt number
   pub delivered : fate.kind ≡ Fate Delivered error
   pub author : fate.author ≡ attempt.author

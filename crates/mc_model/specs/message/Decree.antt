@@ -16,12 +16,13 @@ pub data Final : Type 0 where
   Rejected : Final
 
 -- what a decree decides: the message is taken, its attempt of a number is begun, that attempt failed with an
--- error, the message has this final state, with an error
+-- error, the message has this final state, with an error, the receipt on that is told
 pub data Kind : Type 0 where
   Taken : Submission → Kind
   Attempt : ℕ → Kind
   Failed : ℕ → Kind
   Fate : Final → ℕ → Kind
+  Told : Kind
 
 pub record Decree : Type 0 where
   pub author : Author

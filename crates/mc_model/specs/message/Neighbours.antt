@@ -10,11 +10,14 @@ use Rattle.mc_model.specs.message.Decree.{
   Expired,
   Failed,
   Fate,
+  Final,
   Kind,
   Rejected,
   Taken,
+  Told,
   Undeliverable,
 }
+use Rattle.mc_model.specs.message.Receipts.{AsksReceipt}
 
 -- how often a message is attempted at most, and how many seconds after a failure, times the attempts so far, the next attempt
 -- comes (own)
@@ -36,6 +39,7 @@ MayBegin id author moment (Taken message) = IsTaken id author moment message
 MayBegin id author moment (Attempt number) = ⊥
 MayBegin id author moment (Failed error) = ⊥
 MayBegin id author moment (Fate final error) = ⊥
+MayBegin id author moment Told = ⊥
 
 -- the first attempt is made from the schedule on and before the expiry
 pub record IsFirstAttempt (message : Submission) (moment number : ℕ) : Type 0 where
@@ -56,23 +60,29 @@ pub record IsFailureOf (attempted author : Author) : Type 0 where
   pub node : author.node ≡ attempted.node
   pub incarnation : attempted.incarnation ≤ author.incarnation
 
--- What may follow a message's newest decree, by what both decide: message is what was taken, attempt the number
--- of attempts so far; then the newest decree's author, moment and kind, and the next one's.
-abbrev pub MayFollow : Submission → ℕ → Author → ℕ → Kind → Author → ℕ → Kind → Type 0
+-- the receipt on a final state of which one was asked is told by the node that took the message, in any incarnation
+pub record IsTelling (message : Submission) (home : ℕ) (final : Final) (author : Author) : Type 0 where
+  pub node : author.node ≡ home
+  pub asked : AsksReceipt final message
+
+-- What may follow a message's newest decree, by what both decide: message is what was taken, home the node that took it,
+-- attempt the number of attempts so far; then the newest decree's author, moment and kind, and the next one's.
+abbrev pub MayFollow : Submission → ℕ → ℕ → Author → ℕ → Kind → Author → ℕ → Kind → Type 0
 -- a message that was taken is attempted, expires or is deleted
-MayFollow message attempt old before (Taken taken) author moment (Attempt number) = IsFirstAttempt message moment number
-MayFollow message attempt old before (Taken taken) author moment (Fate Expired error) = message.expiry ≤ moment
-MayFollow message attempt old before (Taken taken) author moment (Fate Deleted error) = Unit {0}
+MayFollow message home attempt old before (Taken taken) author moment (Attempt number) = IsFirstAttempt message moment number
+MayFollow message home attempt old before (Taken taken) author moment (Fate Expired error) = message.expiry ≤ moment
+MayFollow message home attempt old before (Taken taken) author moment (Fate Deleted error) = Unit {0}
 -- an attempt fails, or its author alone says its outcome
-MayFollow message attempt old before (Attempt tried) author moment (Failed error) = IsFailureOf old author
-MayFollow message attempt old before (Attempt tried) author moment (Fate Delivered error) = author ≡ old
-MayFollow message attempt old before (Attempt tried) author moment (Fate Undeliverable error) = author ≡ old
-MayFollow message attempt old before (Attempt tried) author moment (Fate Rejected error) = author ≡ old
+MayFollow message home attempt old before (Attempt tried) author moment (Failed error) = IsFailureOf old author
+MayFollow message home attempt old before (Attempt tried) author moment (Fate Delivered error) = author ≡ old
+MayFollow message home attempt old before (Attempt tried) author moment (Fate Undeliverable error) = author ≡ old
+MayFollow message home attempt old before (Attempt tried) author moment (Fate Rejected error) = author ≡ old
 -- after a failure there is another attempt, or the message expires, is deleted, or can't be delivered
-MayFollow message attempt old before (Failed cause) author moment (Attempt number) =
+MayFollow message home attempt old before (Failed cause) author moment (Attempt number) =
     IsNextAttempt message attempt before moment number
-MayFollow message attempt old before (Failed cause) author moment (Fate Expired error) = message.expiry ≤ moment
-MayFollow message attempt old before (Failed cause) author moment (Fate Deleted error) = Unit {0}
-MayFollow message attempt old before (Failed cause) author moment (Fate Undeliverable error) = attempt ≡ most_attempts
--- nothing follows a fate, and no other decree follows
-MayFollow message attempt old before kind author moment next = ⊥
+MayFollow message home attempt old before (Failed cause) author moment (Fate Expired error) = message.expiry ≤ moment
+MayFollow message home attempt old before (Failed cause) author moment (Fate Deleted error) = Unit {0}
+MayFollow message home attempt old before (Failed cause) author moment (Fate Undeliverable error) = attempt ≡ most_attempts
+-- behind a fate its receipt is told; nothing follows that, and no other decree follows
+MayFollow message home attempt old before (Fate final error) author moment Told = IsTelling message home final author
+MayFollow message home attempt old before kind author moment next = ⊥

@@ -1,8 +1,9 @@
 -- Which acts are due in a step besides those of its input.
-use Rattle.std.specs.Prelude.{◌≡◌, ◌⊎◌, ℕ, suc, ◌+◌, ◌%◌, ◌≤◌, false, List, Option, Some}
+use Rattle.std.specs.Prelude.{◌≡◌, ℕ, suc, ◌+◌, ◌≤◌, false, List, Option, Some}
 use Rattle.mc_model.specs.message.Ids.{node_of}
 use Rattle.mc_model.specs.message.Submission.{Submission}
-use Rattle.mc_model.specs.message.Decree.{Decree, Delivered, Final}
+use Rattle.mc_model.specs.message.Decree.{Decree, Final}
+use Rattle.mc_model.specs.message.Receipts.{AsksReceipt}
 use Rattle.mc_model.specs.message.Chain.{final_in, taken_in}
 use Rattle.mc_model.specs.synod.Lists.{In}
 use Rattle.mc_model.specs.synod.Acceptor.{Records}
@@ -81,10 +82,6 @@ pub record IsDueReply (nodes node : ℕ) (a : Actor) (ticket id : ℕ) (answer :
 abbrev pub DueToReply : ℕ → ℕ → Actor → Act → Type 0
 DueToReply nodes node a (Replies ticket id answer) = IsDueReply nodes node a ticket id answer
 DueToReply nodes node a act = ⊥
-
--- a receipt was asked for on every final state, or on every one but DELIVERED (SMPP 3.4, 5.2.17)
-abbrev pub AsksReceipt : Final → Submission → Type 0
-AsksReceipt final taken = (taken.registered_delivery % 4 ≡ 1) ⊎ ((taken.registered_delivery % 4 ≡ 2) × (final ≡ Delivered → ⊥))
 
 -- a receipt is due where the node that the id names learns a final state of which one was asked
 pub record IsDueReport (nodes node : ℕ) (before a : Actor) (id : ℕ) (chain : List Decree) : Type 0 where

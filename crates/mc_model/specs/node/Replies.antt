@@ -15,9 +15,10 @@ use Rattle.mc_model.specs.message.Decree.{
   Kind,
   Rejected,
   Taken,
+  Told,
   Undeliverable,
 }
-use Rattle.mc_model.specs.message.Chain.{final_in, taken_in}
+use Rattle.mc_model.specs.message.Chain.{final_in, taken_in, untold}
 use Rattle.mc_model.specs.node.Actor.{Actor, Cancel, Query, Request, Submit, Waiting, id_in, name_of}
 use Rattle.mc_model.specs.node.Room.{IsWaiting}
 use Rattle.mc_model.specs.node.Knowledge.{Knows, KnowsNothing}
@@ -46,7 +47,7 @@ pub data Answer : Type 0 where
 abbrev pub longest_wait : ℕ
 longest_wait = 30
 
--- a message that was taken is to be deleted, or an attempt of it is open, or it has another fate
+-- by the newest decree but Told: a message that was taken is to be deleted, or an attempt of it is open, or it has another fate
 abbrev pub KeepsMessage : Kind → Type 0
 KeepsMessage (Taken message) = ⊥
 KeepsMessage (Attempt number) = Unit {0}
@@ -56,6 +57,7 @@ KeepsMessage (Fate Expired error) = Unit {0}
 KeepsMessage (Fate Deleted error) = ⊥
 KeepsMessage (Fate Undeliverable error) = Unit {0}
 KeepsMessage (Fate Rejected error) = Unit {0}
+KeepsMessage Told = ⊥
 
 pub record IsUnknown (nodes node : ℕ) (a : Actor) (w : Waiting) : Type 0 where
   pub nothing : KnowsNothing nodes a.received (id_in w.request)
@@ -99,7 +101,7 @@ pub record IsKept (nodes : ℕ) (a : Actor) (w : Waiting) (account source destin
   pub settled : w.settled ≡ true
   pub message : taken_in chain ≡ Some taken
   pub matched : IsMatch taken account source destination
-  pub chain_is : chain ≡ newest ∷ older
+  pub chain_is : untold chain ≡ newest ∷ older
   pub kept : KeepsMessage newest.kind
 
 pub record IsNotMatched (nodes : ℕ) (a : Actor) (w : Waiting) (account source destination : List ℕ)
