@@ -5,7 +5,7 @@ use Rattle.std.specs.Bool.{Decides}
 use Rattle.std.proofs.lemmas.Bool.Decides.{Decides-eqb, Decides-like, Decides-or}
 use Rattle.mc_model.specs.message.Submission.{Submission}
 use Rattle.mc_model.specs.message.Decree.{Deleted, Delivered, Expired, Final, Rejected, Undeliverable}
-use Rattle.mc_model.specs.node.Phases.{AsksReceipt}
+use Rattle.mc_model.specs.message.Receipts.{AsksReceipt}
 use Rattle.node_model.specs.Answers.{is_asked}
 
 other_asks : (final : Final) (taken : Submission) → (final ≡ Delivered → ⊥) →

@@ -5,7 +5,7 @@ use Rattle.std.proofs.lemmas.Bool.{true≢false}
 use Rattle.std.proofs.lemmas.Bool.Decides.{Decides-and, Decides-eqb, Decides-like}
 use Rattle.std.proofs.lemmas.Slice.Eq.{bytes_eq-Decides, slice_eq-Decides}
 use Rattle.mc_model.specs.message.Submission.{Address, Submission}
-use Rattle.mc_model.specs.message.Decree.{Attempt, Author, Decree, Deleted, Delivered, Expired, Failed, Fate, Final, Kind, Rejected, Taken, Undeliverable}
+use Rattle.mc_model.specs.message.Decree.{Attempt, Author, Decree, Deleted, Delivered, Expired, Failed, Fate, Final, Kind, Rejected, Taken, Told, Undeliverable}
 use Rattle.mc_model.specs.synod.OneSlot.{Vote}
 use Rattle.node_model.specs.Same.{same_address, same_author, same_decree, same_final, same_handling, same_kind, same_parameter}
 use Rattle.node_model.specs.Same.{same_parties, same_submission, same_vote}
@@ -101,6 +101,7 @@ kind_self (Taken a) = (submission_decides a a).1 refl
 kind_self (Attempt a) = (Decides-eqb a a).1 refl
 kind_self (Failed a) = (Decides-eqb a a).1 refl
 kind_self (Fate a error) = (Decides-and _ _ (final_decides a a) (Decides-eqb error error)).1 (refl, refl)
+kind_self Told = refl
 
 kind_is : (a b : Kind) → same_kind a b ≡ true → a ≡ b
 kind_is (Taken a) (Taken b) t = ap Taken ((submission_decides a b).0 t)
@@ -108,6 +109,7 @@ kind_is (Attempt a) (Attempt b) t = ap Attempt ((Decides-eqb a b).0 t)
 kind_is (Failed a) (Failed b) t = ap Failed ((Decides-eqb a b).0 t)
 kind_is (Fate a error) (Fate b other) t =
     let parts = (Decides-and _ _ (final_decides a b) (Decides-eqb error other)).0 t in λ i. Fate (parts.0 i) (parts.1 i)
+kind_is Told Told t = refl
 kind_is a b t = absurd (true≢false (sym t))
 
 kind_decides : (a b : Kind) → Decides (same_kind a b) (a ≡ b)

@@ -1,6 +1,6 @@
 -- What a node does if an attempt is asked for, and if its outcome comes.
 use Rattle.std.specs.Prelude.{ℕ, true, ◌==◌, ◌&&◌, not, is_some, List, [], ◌∷◌, length, Option, Some, None, if◌then◌else◌}
-use Rattle.mc_model.specs.message.Decree.{Attempt, Decree, Failed, Fate, Kind, Taken}
+use Rattle.mc_model.specs.message.Decree.{Attempt, Decree, Failed, Fate, Kind, Taken, Told}
 use Rattle.mc_model.specs.message.Chain.{taken_in}
 use Rattle.mc_model.specs.synod.Packet.{Slot, same_slot, slot_of}
 use Rattle.mc_model.specs.node.Grant.{AlreadyGranted, Closed, GrantRefusal, NotChosen, NotMine, OlderIncarnation}
@@ -30,6 +30,7 @@ newest_refusal setup k m newest place (Taken message) = Some NotChosen
 newest_refusal setup k m newest place (Attempt number) = attempt_refusal setup k m newest place
 newest_refusal setup k m newest place (Failed error) = Some NotChosen
 newest_refusal setup k m newest place (Fate final error) = Some NotChosen
+newest_refusal setup k m newest place Told = Some NotChosen
 
 abbrev pub known_refusal : Setup → Kept → Message → Option (List Decree) → Option GrantRefusal
 known_refusal setup k m None = Some NotChosen

@@ -28,14 +28,14 @@ pub record Message : Type 0 where
 
 -- a chain has so many decrees at most, and so many places
 abbrev pub most_places : ℕ
-most_places = 18
+most_places = 19
 
 abbrev pub unseen : Message
 unseen = record {
   votes = λ vote. nobody;
   known = None;
   round = None;
-  seen = 0 ∷ 0 ∷ 0 ∷ 0 ∷ 0 ∷ 0 ∷ 0 ∷ 0 ∷ 0 ∷ 0 ∷ 0 ∷ 0 ∷ 0 ∷ 0 ∷ 0 ∷ 0 ∷ 0 ∷ 0 ∷ [];
+  seen = 0 ∷ 0 ∷ 0 ∷ 0 ∷ 0 ∷ 0 ∷ 0 ∷ 0 ∷ 0 ∷ 0 ∷ 0 ∷ 0 ∷ 0 ∷ 0 ∷ 0 ∷ 0 ∷ 0 ∷ 0 ∷ 0 ∷ [];
   granted = λ place. false;
   closed = λ place. None;
 }

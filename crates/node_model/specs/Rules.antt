@@ -2,7 +2,7 @@
 use Rattle.std.specs.Prelude.{ℕ, ◌+◌, ◌*◌, Bool, false, ◌==◌, ◌&&◌, not, nat_le, nat_lt, List, [], ◌∷◌, length, Option, Some, None, if◌then◌else◌}
 use Rattle.std.specs.Option.{is_none, option_map, option_or}
 use Rattle.mc_model.specs.message.Submission.{Submission}
-use Rattle.mc_model.specs.message.Decree.{Attempt, Decree, Expired, Failed, Fate, Kind, Taken, Undeliverable}
+use Rattle.mc_model.specs.message.Decree.{Attempt, Decree, Expired, Failed, Fate, Kind, Taken, Told, Undeliverable}
 use Rattle.mc_model.specs.message.Neighbours.{most_attempts, retry_delay}
 use Rattle.mc_model.specs.message.Chain.{attempts_in, taken_in}
 use Rattle.mc_model.specs.synod.Packet.{TopVote}
@@ -42,6 +42,7 @@ is_attempt_by node newest (Taken message) = false
 is_attempt_by node newest (Attempt number) = newest.author.node == node
 is_attempt_by node newest (Failed error) = false
 is_attempt_by node newest (Fate final error) = false
+is_attempt_by node newest Told = false
 
 -- 3: it was closed
 abbrev pub closing : Setup → Kept → Decree → List Decree → Option Outcome → Option Start
@@ -79,6 +80,7 @@ undelivered setup k newest older (Failed error) =
     then Some (start_behind setup k newest older (Fate Undeliverable error))
     else None
 undelivered setup k newest older (Fate final error) = None
+undelivered setup k newest older Told = None
 
 -- 9: the next attempt is due, and its target is up
 abbrev pub tried : Setup → Kept → Submission → Decree → List Decree → Kind → Option Start
@@ -94,6 +96,7 @@ tried setup k taken newest older (Failed error) =
     then Some (start_behind setup k newest older (Attempt (attempts_in (newest ∷ older) + 1)))
     else None
 tried setup k taken newest older (Fate final error) = None
+tried setup k taken newest older Told = None
 
 -- ---- the first that fits
 

@@ -16,6 +16,7 @@ use Rattle.mc_model.specs.message.Decree.{
   Kind,
   Rejected,
   Taken,
+  Told,
   Undeliverable,
 }
 use Rattle.mc_model.specs.synod.OneSlot.{Vote}
@@ -61,6 +62,7 @@ same_kind (Taken a) (Taken b) = same_submission a b
 same_kind (Attempt a) (Attempt b) = a == b
 same_kind (Failed a) (Failed b) = a == b
 same_kind (Fate a error) (Fate b other) = same_final a b && (error == other)
+same_kind Told Told = true
 same_kind a b = false
 
 abbrev pub same_author : Author → Author → Bool

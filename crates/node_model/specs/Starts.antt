@@ -2,7 +2,7 @@
 use Rattle.std.specs.Prelude.{ℕ, pred, max, Bool, true, false, ◌==◌, ◌&&◌, nat_lt, List, [], ◌∷◌, length, Option, Some, None, if◌then◌else◌}
 use Rattle.std.specs.List.{list_any}
 use Rattle.mc_model.specs.message.Submission.{Submission}
-use Rattle.mc_model.specs.message.Decree.{Attempt, Decree, Deleted, Failed, Fate, Kind, Taken}
+use Rattle.mc_model.specs.message.Decree.{Attempt, Decree, Deleted, Failed, Fate, Kind, Taken, Told}
 use Rattle.mc_model.specs.message.Chain.{taken_in}
 use Rattle.mc_model.specs.synod.Packet.{TopVote}
 use Rattle.mc_model.specs.node.Actor.{Cancel, Query, Request, Submit}
@@ -56,6 +56,7 @@ is_idle (Taken message) = true
 is_idle (Attempt number) = false
 is_idle (Failed error) = true
 is_idle (Fate final error) = false
+is_idle Told = false
 
 abbrev pub matches : Request → ℕ → Submission → Bool
 matches (Submit other message) id taken = false
