@@ -155,8 +155,7 @@ shown_fresh before w name id asked other chain fated final chosen ends may =
     let long = covered before w name id asked.fresh asked.nodes asked.holds name.node fated chosen (Some chain) settled in
     let still : Chosen w id fated = record { ballot = chosen.ballot; chosen = asked.chosen _ _ chosen.chosen } in
     let some = not_empty w asked.holds.keeps asked.holds.links id chain known in
-    let same = fate_longest w asked.holds id fated chain final still known ends (longer (length fated) (length chain) some long) in
-    ap final_in same ∙ ends
+    fate_longest w asked.holds id fated chain final still known ends (longer (length fated) (length chain) some long)
   where
     longer : (a b : ℕ) → 1 ≤ b → pred a ≤ pred b → a ≤ b
     longer a b some long = omega (arith, some, long)
@@ -300,7 +299,7 @@ stands_on_cancel nodes serials acts newer stating older id run is states =
     let w = reached first d.earlier in
     let h = holds nodes serials d.earlier from.1 in
     let known = tells_known w stating.node stating.act from.0 id states.chain states.tells in
-    subst (IsDeletion id states.chain) d.past (chosen_deletion w h.keeps h.deletions id states.chain
+    subst (IsDeletion id states.chain) d.past (chosen_deletion w h.keeps h.links h.deletions id states.chain
     (known_chosen w h.keeps stating.node id states.chain known) states.state)
 
 -- ---- who tells of a request

@@ -3,7 +3,7 @@ use Rattle.std.proofs.Common.{◌≡◌, ◌⊎◌, ℕ, Bool, true, false, List
 use Rattle.std.specs.Prelude.{◌==◌, if◌then◌else◌}
 use Rattle.std.proofs.lemmas.Bool.{eqb-true}
 use Rattle.mc_model.specs.message.Submission.{Submission}
-use Rattle.mc_model.specs.message.Decree.{Author, Decree, Kind, Taken, Attempt, Failed, Fate, Delivered, Expired, Deleted, Undeliverable, Rejected}
+use Rattle.mc_model.specs.message.Decree.{Author, Decree, Kind, Final, Taken, Attempt, Failed, Fate, Told, Delivered, Expired, Deleted, Undeliverable, Rejected}
 use Rattle.mc_model.specs.message.Neighbours.{MayFollow}
 use Rattle.mc_model.specs.message.Chain.{taken_in, taken_by, final_in, final_by}
 use Rattle.mc_model.specs.synod.Lists.{In}
@@ -18,9 +18,11 @@ use Rattle.mc_model.specs.cluster.Fate.{deed_by}
 use Rattle.mc_model.specs.cluster.Decrees.{CameToCancel, IsDeletion}
 use Rattle.mc_parts.proofs.Membership.{in_either, of_only, in_map, in_filter}
 use Rattle.mc_parts.proofs.Majorities.{both}
+use Rattle.mc_parts.proofs.Fates.{told_ends, told_or_not}
 use Rattle.mc_laws.proofs.invariant.Growth.{actors_after}
 use Rattle.mc_laws.proofs.invariant.Keeping.{Keeps, WasProposed, PromiseFits, proposal_cases}
-use Rattle.mc_laws.proofs.invariant.Agreement.{Chosen}
+use Rattle.mc_laws.proofs.invariant.Agreement.{Chosen, standing}
+use Rattle.mc_laws.proofs.invariant.Links.{Links}
 
 -- ---- what holds of a world
 
@@ -128,6 +130,8 @@ asked_more past deed id (Some taken) (Fate Delivered error) c = tt
 asked_more past deed id (Some taken) (Fate Expired error) c = tt
 asked_more past deed id (Some taken) (Fate Undeliverable error) c = tt
 asked_more past deed id (Some taken) (Fate Rejected error) c = tt
+asked_more past deed id None Told c = tt
+asked_more past deed id (Some taken) Told c = tt
 
 asked_still : (past : List Deed) (deed : Deed) (id : ℕ) (chain : List Decree) → IsAskedFor past id chain → IsAskedFor (deed ∷ past) id chain
 asked_still past deed id [] asked = tt
@@ -148,29 +152,31 @@ cancelled w deletions node id slot taken is c = record {
 
 -- a decree of a node's own deletes a message for which a cancel_sm waits
 own_asked : (w : World) → Deletions w →
-    (node id : ℕ) (slot : Slot) (attempts : ℕ) (attempted author : Author) (before moment : ℕ) (taken : Submission) (kind next : Kind) →
-    slot.id ≡ id → MayFollow taken attempts attempted before kind author moment next →
+    (node id : ℕ) (slot : Slot) (home attempts : ℕ) (attempted author : Author) (before moment : ℕ) (taken : Submission) (kind next : Kind) →
+    slot.id ≡ id → MayFollow taken home attempts attempted before kind author moment next →
     Allows (w.actors node) slot taken attempted kind next →
     DeletedBy w.past id (Some taken) next
-own_asked w deletions node id slot attempts attempted author before moment taken (Attempt number) (Fate Deleted error) is may allowed = absurd may
-own_asked w deletions node id slot attempts attempted author before moment taken (Taken message) (Fate Deleted error) is may allowed =
+own_asked w deletions node id slot home attempts attempted author before moment taken (Attempt number) (Fate Deleted error) is may allowed = absurd may
+own_asked w deletions node id slot home attempts attempted author before moment taken (Taken message) (Fate Deleted error) is may allowed =
     cancelled w deletions node id slot taken is allowed
-own_asked w deletions node id slot attempts attempted author before moment taken (Failed cause) (Fate Deleted error) is may allowed =
+own_asked w deletions node id slot home attempts attempted author before moment taken (Failed cause) (Fate Deleted error) is may allowed =
     cancelled w deletions node id slot taken is allowed
-own_asked w deletions node id slot attempts attempted author before moment taken (Fate final cause) (Fate Deleted error) is may allowed = absurd may
-own_asked w deletions node id slot attempts attempted author before moment taken kind (Taken message) is may allowed = tt
-own_asked w deletions node id slot attempts attempted author before moment taken kind (Attempt number) is may allowed = tt
-own_asked w deletions node id slot attempts attempted author before moment taken kind (Failed error) is may allowed = tt
-own_asked w deletions node id slot attempts attempted author before moment taken kind (Fate Delivered error) is may allowed = tt
-own_asked w deletions node id slot attempts attempted author before moment taken kind (Fate Expired error) is may allowed = tt
-own_asked w deletions node id slot attempts attempted author before moment taken kind (Fate Undeliverable error) is may allowed = tt
-own_asked w deletions node id slot attempts attempted author before moment taken kind (Fate Rejected error) is may allowed = tt
+own_asked w deletions node id slot home attempts attempted author before moment taken (Fate final cause) (Fate Deleted error) is may allowed = absurd may
+own_asked w deletions node id slot home attempts attempted author before moment taken Told (Fate Deleted error) is may allowed = absurd may
+own_asked w deletions node id slot home attempts attempted author before moment taken kind (Taken message) is may allowed = tt
+own_asked w deletions node id slot home attempts attempted author before moment taken kind (Attempt number) is may allowed = tt
+own_asked w deletions node id slot home attempts attempted author before moment taken kind (Failed error) is may allowed = tt
+own_asked w deletions node id slot home attempts attempted author before moment taken kind (Fate Delivered error) is may allowed = tt
+own_asked w deletions node id slot home attempts attempted author before moment taken kind (Fate Expired error) is may allowed = tt
+own_asked w deletions node id slot home attempts attempted author before moment taken kind (Fate Undeliverable error) is may allowed = tt
+own_asked w deletions node id slot home attempts attempted author before moment taken kind (Fate Rejected error) is may allowed = tt
+own_asked w deletions node id slot home attempts attempted author before moment taken kind Told is may allowed = tt
 
 next_asked : (w : World) → Deletions w → (node id : ℕ) (chain : List Decree) → IsNext (IsChosenIn w) node (w.actors node) id chain → IsAskedFor w.past id chain
 next_asked w deletions node id chain n =
     subst (IsAskedFor w.past id) (sym n.chain_is) (subst (λ (t : Option Submission). DeletedBy w.past id t n.next.kind) (sym n.message)
     (own_asked w deletions node id (slot_of id
-    (n.newest ∷ n.older)) _ n.newest.author n.next.author n.newest.moment n.next.moment n.taken n.newest.kind n.next.kind refl n.may.1 n.allowed))
+    (n.newest ∷ n.older)) _ _ n.newest.author n.next.author n.newest.moment n.next.moment n.taken n.newest.kind n.next.kind refl n.may.1 n.allowed))
 
 free_asked : (w : World) → Keeps w → Deletions w → (node : ℕ) (slot : Slot) (chain : List Decree) →
     StandsIn w slot chain ⊎ ((slot ≡ slot_of slot.id chain) × IsOwn (IsChosenIn w) node (w.actors node) slot.id chain) →
@@ -216,32 +222,54 @@ deletions_start nodes serials =
 
 -- ---- what is stated
 
-deletion : (past : List Deed) (id : ℕ) (taken : Option Submission) (kind : Kind) → final_by kind ≡ Some Deleted →
-    DeletedBy past id taken kind →
+deletion : (past : List Deed) (id : ℕ) (taken : Option Submission) (kind : Kind) (older : Option Final) → (kind ≡ Told → ⊥) →
+    final_by kind older ≡ Some Deleted → DeletedBy past id taken kind →
     (message : Submission) × (taken ≡ Some message) × CameToCancel past id message
-deletion past id (Some taken) (Fate Deleted error) is c = (taken, refl, c)
-deletion past id None (Fate Deleted error) is c = absurd c
-deletion past id taken (Taken message) is c = cc
-deletion past id taken (Attempt number) is c = cc
-deletion past id taken (Failed error) is c = cc
-deletion past id taken (Fate Delivered error) is c = cc
-deletion past id taken (Fate Expired error) is c = cc
-deletion past id taken (Fate Undeliverable error) is c = cc
-deletion past id taken (Fate Rejected error) is c = cc
+deletion past id (Some taken) (Fate Deleted error) older apart is c = (taken, refl, c)
+deletion past id None (Fate Deleted error) older apart is c = absurd c
+deletion past id taken (Taken message) older apart is c = cc
+deletion past id taken (Attempt number) older apart is c = cc
+deletion past id taken (Failed error) older apart is c = cc
+deletion past id taken (Fate Delivered error) older apart is c = cc
+deletion past id taken (Fate Expired error) older apart is c = cc
+deletion past id taken (Fate Undeliverable error) older apart is c = cc
+deletion past id taken (Fate Rejected error) older apart is c = cc
+deletion past id taken Told older apart is c = absurd (apart refl)
 
-taken_before : (kind : Kind) (taken : Option Submission) → final_by kind ≡ Some Deleted → taken_by kind taken ≡ taken
-taken_before (Taken message) taken is = cc
-taken_before (Attempt number) taken is = refl
-taken_before (Failed error) taken is = refl
-taken_before (Fate final error) taken is = refl
+taken_before : (kind : Kind) (older : Option Final) (taken : Option Submission) → final_by kind older ≡ Some Deleted → taken_by kind taken ≡ taken
+taken_before (Taken message) older taken is = cc
+taken_before (Attempt number) older taken is = refl
+taken_before (Failed error) older taken is = refl
+taken_before (Fate final error) older taken is = refl
+taken_before Told older taken is = refl
 
-pub chosen_deletion : (w : World) → Keeps w → Deletions w → (id : ℕ) (chain : List Decree) → Chosen w id chain →
-    final_in chain ≡ Some Deleted →
-    IsDeletion id chain w.past
-chosen_deletion w keeps deletions id [] chosen is = cc
-chosen_deletion w keeps deletions id (newest ∷ older) chosen is =
+-- by a decree that is no Told
+untold_deletion : (w : World) → Keeps w → Deletions w → (id : ℕ) (newest : Decree) (older : List Decree) → Chosen w id (newest ∷ older) →
+    (newest.kind ≡ Told → ⊥) → final_in (newest ∷ older) ≡ Some Deleted →
+    IsDeletion id (newest ∷ older) w.past
+untold_deletion w keeps deletions id newest older chosen apart is =
     let voter = both w.nodes _ _ chosen.chosen chosen.chosen in
     let asked = deletions.asked (slot_of id (newest ∷ older)) (vote_at chosen.ballot (newest ∷ older))
     (keeps.proposed (cast voter.node (slot_of id (newest ∷ older)) (vote_at chosen.ballot (newest ∷ older))) voter.one) in
-    let d = deletion w.past id (taken_in older) newest.kind is asked in
-    record { taken = d.0; message = taken_before newest.kind (taken_in older) is ∙ d.1; cancelled = d.2 }
+    let d = deletion w.past id (taken_in older) newest.kind _ apart is asked in
+    record { taken = d.0; message = taken_before newest.kind _ (taken_in older) is ∙ d.1; cancelled = d.2 }
+
+-- or by the one below it
+told_deletion : (w : World) → Keeps w → Links w → Deletions w → (id : ℕ) (told : Decree) (older : List Decree) → Chosen w id (told ∷ older) →
+    told.kind ≡ Told → final_in older ≡ Some Deleted →
+    IsDeletion id (told ∷ older) w.past
+told_deletion w keeps links deletions id told [] chosen ends is = cc
+told_deletion w keeps links deletions id told (newest ∷ older) chosen ends is =
+    let s = standing w keeps links id (told ∷ newest ∷ older) chosen in
+    let d = untold_deletion w keeps deletions id newest older (record { ballot = s.fits.ballot; chosen = s.fits.chosen })
+    (λ told_too. told_ends _ newest older told told_too s.orderly.1) is in
+    record { taken = d.taken; message = ap (λ (kind : Kind). taken_by kind (taken_in (newest ∷ older))) ends ∙ d.message; cancelled = d.cancelled }
+
+pub chosen_deletion : (w : World) → Keeps w → Links w → Deletions w → (id : ℕ) (chain : List Decree) → Chosen w id chain →
+    final_in chain ≡ Some Deleted →
+    IsDeletion id chain w.past
+chosen_deletion w keeps links deletions id [] chosen is = cc
+chosen_deletion w keeps links deletions id (newest ∷ older) chosen is = elim (told_or_not newest.kind) [
+  | inl ends ↦ told_deletion w keeps links deletions id newest older chosen ends (ap (λ (kind : Kind). final_by kind (final_in older)) (sym ends) ∙ is)
+  | inr apart ↦ untold_deletion w keeps deletions id newest older chosen apart is
+]

@@ -2,9 +2,9 @@
 use Rattle.std.proofs.Common.{◌≡◌, ◌⊎◌, ℕ, ◌<◌, List, [], ◌∷◌, ◌++◌, length, Option, Some, None, refl, sym, ◌∙◌, ap, subst, inl, inr, arith}
 use Rattle.std.proofs.lemmas.Bool.{cases_lt}
 use Rattle.mc_model.specs.message.Submission.{Submission}
-use Rattle.mc_model.specs.message.Decree.{Author, Decree, Kind, Taken, Attempt, Failed, Fate, Final, Delivered, Expired, Deleted, Undeliverable, Rejected}
+use Rattle.mc_model.specs.message.Decree.{Author, Decree, Kind, Taken, Attempt, Failed, Fate, Told, Final, Delivered, Expired, Deleted, Undeliverable, Rejected}
 use Rattle.mc_model.specs.message.Neighbours.{MayFollow}
-use Rattle.mc_model.specs.message.Chain.{MayExtend, taken_in, final_in, final_by}
+use Rattle.mc_model.specs.message.Chain.{MayExtend, taken_in, final_in, final_by, untold}
 use Rattle.mc_model.specs.synod.Lists.{In}
 use Rattle.mc_model.specs.synod.OneSlot.{vote_at}
 use Rattle.mc_model.specs.synod.Packet.{Slot, slot_of}
@@ -17,6 +17,7 @@ use Rattle.mc_model.specs.node.Effect.{actor_by}
 use Rattle.mc_model.specs.cluster.World.{World, Deed, May, after, start}
 use Rattle.mc_model.specs.cluster.Fate.{TellsOf, States, CameBefore, deed_by, IsDelivery}
 use Rattle.mc_model.specs.cluster.Loose.{MayLoosely}
+use Rattle.mc_parts.proofs.Fates.{open_kind, told_ends, told_or_not, untold_below, untold_told}
 use Rattle.mc_laws.proofs.invariant.Growth.{grows, grows_loosely, later, actors_after}
 pub use Rattle.mc_laws.proofs.invariant.Loosening.{tells_known}
 use Rattle.mc_laws.proofs.invariant.Keeping.{Keeps}
@@ -45,13 +46,13 @@ pub record HasChain (w : World) (id : ℕ) : Type 0 where
 abbrev pub AcceptedHaveChains : World → Type 0
 AcceptedHaveChains w = (deed : Deed) (ticket id : ℕ) → In deed w.past → deed.act ≡ Replies ticket id Accepted → HasChain w id
 
-pub record Told (w : World) : Type 0 where
+pub record Truthful (w : World) : Type 0 where
   pub chosen : (deed : Deed) (id : ℕ) (chain : List Decree) → In deed w.past → TellsOf deed.act id chain → Chosen w id chain
   pub granted : (node : ℕ) (slot : Slot) → In slot (w.actors node).granted →
       In (deed_by (record { node = node; incarnation = (w.actors node).incarnation }) (Grants slot)) w.past
   pub timely : AllTimely w.past
 
-chosen_after : (w : World) → Keeps w → Told w → (node : ℕ) (act : Act) → MayLoosely w node act → (deed : Deed) (id : ℕ) (chain : List Decree) →
+chosen_after : (w : World) → Keeps w → Truthful w → (node : ℕ) (act : Act) → MayLoosely w node act → (deed : Deed) (id : ℕ) (chain : List Decree) →
     In deed (after w node act).past → TellsOf deed.act id chain →
     Chosen (after w node act) id chain
 chosen_after w keeps told node act may deed id chain is_in tells =
@@ -91,16 +92,23 @@ accepted_after w keeps accepted node act may deed ticket id is_in is =
 
 -- an attempt is no fate
 attempt_open : (newest : Decree) (older : List Decree) (number : ℕ) (final : Final) → newest.kind ≡ Attempt number → final_in (newest ∷ older) ≡ Some final → ⊥
-attempt_open newest older number final attempt ends = let none : final_by newest.kind ≡ None = ap final_by attempt in cc
+attempt_open newest older number final attempt ends = let none : final_by newest.kind (final_in older) ≡ None = ap (λ (kind : Kind). final_by kind (final_in older)) attempt in cc
 
 -- so no chain that begins with one that has a fate ends in an attempt
 attempt_behind : (newest : Decree) (older chain more : List Decree) (number : ℕ) (final : Final) → newest.kind ≡ Attempt number →
     (newest ∷ older) ≡ more ++ chain → IsOrderly (newest ∷ older) → final_in chain ≡ Some final →
     ⊥
 attempt_behind newest older chain more number final attempt is orderly ends =
-    let last = fate_is_last chain more final (subst IsOrderly is orderly) ends in
-    let same : (newest ∷ older) ≡ chain = is ∙ ap (λ (m : List Decree). m ++ chain) last in
-    attempt_open newest older number final attempt (ap final_in same ∙ ends)
+    elim (fate_is_last chain more final (subst IsOrderly is orderly) ends) [
+      | inl none ↦
+          let same : (newest ∷ older) ≡ chain = is ∙ ap (λ (m : List Decree). m ++ chain) none in
+          attempt_open newest older number final attempt (ap final_in same ∙ ends)
+      | inr told ↦
+          let same : (newest ∷ older) ≡ told.0 ∷ chain = is ∙ ap (λ (m : List Decree). m ++ chain) told.1.0 in
+          let kinds : newest.kind ≡ told.0.kind = (let heads : newest ≡ told.0 = cc in ap (λ (d : Decree). d.kind) heads) in
+          let clash : Attempt number ≡ Told = sym attempt ∙ (kinds ∙ told.1.1) in
+          cc
+    ]
 
 goes_on : (w : World) → Keeps w → Links w → (id : ℕ) (newest : Decree) (older chain more : List Decree) (number : ℕ) (final : Final) →
     newest.kind ≡ Attempt number → chain ≡ more ++ (newest ∷ older) → Chosen w id chain → final_in chain ≡ Some final →
@@ -140,7 +148,7 @@ pub passed_at : (w : World) (attempted : Author) (slot : Slot) (kind next : Kind
     PassedClosed w attempted slot next ⊎ PassedLost w attempted next
 passed_at w attempted slot kind next number is passed = subst (λ (k : Kind). Passed w attempted slot k next) is passed
 
-no_fate_at_grant : (w : World) → Keeps w → Links w → Told w → (node : ℕ) (slot : Slot) → MayGrant w.nodes node (w.actors node) slot →
+no_fate_at_grant : (w : World) → Keeps w → Links w → Truthful w → (node : ℕ) (slot : Slot) → MayGrant w.nodes node (w.actors node) slot →
     (earlier : Deed) (final : Final) → In earlier w.past → States earlier slot.id final →
     ⊥
 no_fate_at_grant w keeps links told node slot may earlier final is_in states =
@@ -162,28 +170,31 @@ pub record IsDelivered (attempted author : Author) (kind next : Kind) : Type 0 w
   pub delivered : next ≡ Fate Delivered error
   pub same : author ≡ attempted
 
-delivered_next : (message : Submission) (attempts : ℕ) (old : Author) (before : ℕ) (kind : Kind) (author : Author) (moment : ℕ) (next : Kind) →
-    MayFollow message attempts old before kind author moment next → final_by next ≡ Some Delivered →
+delivered_next : (message : Submission) (home attempts : ℕ) (old : Author) (before : ℕ) (kind : Kind) (author : Author) (moment : ℕ) (next : Kind)
+    (older : Option Final) → MayFollow message home attempts old before kind author moment next → (next ≡ Told → ⊥) →
+    final_by next older ≡ Some Delivered →
     IsDelivered old author kind next
-delivered_next message attempts old before (Attempt number) author moment (Fate Delivered error) may is =
+delivered_next message home attempts old before (Attempt number) author moment (Fate Delivered error) older may apart is =
     record { number = number; error = error; attempt = refl; delivered = refl; same = may }
-delivered_next message attempts old before (Taken taken) author moment (Fate Delivered error) may is = absurd may
-delivered_next message attempts old before (Failed cause) author moment (Fate Delivered error) may is = absurd may
-delivered_next message attempts old before (Fate final cause) author moment (Fate Delivered error) may is = absurd may
-delivered_next message attempts old before kind author moment (Fate Expired error) may is = cc
-delivered_next message attempts old before kind author moment (Fate Deleted error) may is = cc
-delivered_next message attempts old before kind author moment (Fate Undeliverable error) may is = cc
-delivered_next message attempts old before kind author moment (Fate Rejected error) may is = cc
-delivered_next message attempts old before kind author moment (Taken taken) may is = cc
-delivered_next message attempts old before kind author moment (Attempt number) may is = cc
-delivered_next message attempts old before kind author moment (Failed error) may is = cc
+delivered_next message home attempts old before (Taken taken) author moment (Fate Delivered error) older may apart is = absurd may
+delivered_next message home attempts old before (Failed cause) author moment (Fate Delivered error) older may apart is = absurd may
+delivered_next message home attempts old before (Fate final cause) author moment (Fate Delivered error) older may apart is = absurd may
+delivered_next message home attempts old before Told author moment (Fate Delivered error) older may apart is = absurd may
+delivered_next message home attempts old before kind author moment (Fate Expired error) older may apart is = cc
+delivered_next message home attempts old before kind author moment (Fate Deleted error) older may apart is = cc
+delivered_next message home attempts old before kind author moment (Fate Undeliverable error) older may apart is = cc
+delivered_next message home attempts old before kind author moment (Fate Rejected error) older may apart is = cc
+delivered_next message home attempts old before kind author moment (Taken taken) older may apart is = cc
+delivered_next message home attempts old before kind author moment (Attempt number) older may apart is = cc
+delivered_next message home attempts old before kind author moment (Failed error) older may apart is = cc
+delivered_next message home attempts old before kind author moment Told older may apart is = absurd (apart refl)
 
 delivered_after : (message : Option Submission) (attempt : Decree) (older : List Decree) (fate : Decree) →
-    MayExtend message (attempt ∷ older) fate → final_by fate.kind ≡ Some Delivered →
+    MayExtend message (attempt ∷ older) fate → (fate.kind ≡ Told → ⊥) → final_in (fate ∷ attempt ∷ older) ≡ Some Delivered →
     IsDelivered attempt.author fate.author attempt.kind fate.kind
-delivered_after None attempt older fate may is = absurd may
-delivered_after (Some message) attempt older fate may is =
-    delivered_next message _ attempt.author attempt.moment attempt.kind fate.author fate.moment fate.kind may.1 is
+delivered_after None attempt older fate may apart is = absurd may
+delivered_after (Some message) attempt older fate may apart is =
+    delivered_next message _ _ attempt.author attempt.moment attempt.kind fate.author fate.moment fate.kind _ may.1 apart is
 
 -- the outcome that such a decree tells of came from an answer
 delivering : (outcome : Outcome) (error : ℕ) → Fate Delivered error ≡ decree_of outcome → outcome ≡ Concluded Delivered error
@@ -218,14 +229,14 @@ granted_before (deed ∷ older) timely author slot outcome (inr later) =
     let b = granted_before older timely.1 author slot outcome later in
     record { newer = deed ∷ b.newer; older = b.older; split = ap (λ (ds : List Deed). deed ∷ ds) b.split; before = b.before }
 
-delivery : (w : World) → Keeps w → Links w → Told w → (id : ℕ) (chain : List Decree) → Chosen w id chain → final_in chain ≡ Some Delivered →
-    IsDelivery id chain w.past
-delivery w keeps links told id [] chosen is = cc
-delivery w keeps links told id (fate ∷ []) chosen is =
-    absurd (taking_is_no_fate fate.kind Delivered (standing w keeps links id (fate ∷ []) chosen).orderly is)
-delivery w keeps links told id (fate ∷ attempt ∷ older) chosen is =
+untold_delivery : (w : World) → Keeps w → Links w → Truthful w → (id : ℕ) (fate : Decree) (below : List Decree) → Chosen w id (fate ∷ below) →
+    (fate.kind ≡ Told → ⊥) → final_in (fate ∷ below) ≡ Some Delivered →
+    IsDelivery id (fate ∷ below) w.past
+untold_delivery w keeps links told id fate [] chosen apart is =
+    absurd (taking_is_no_fate fate.kind _ Delivered (standing w keeps links id (fate ∷ []) chosen).orderly is)
+untold_delivery w keeps links told id fate (attempt ∷ older) chosen apart is =
     let s = standing w keeps links id (fate ∷ attempt ∷ older) chosen in
-    let d = delivered_after (taken_in (attempt ∷ older)) attempt older fate s.orderly.1 is in
+    let d = delivered_after (taken_in (attempt ∷ older)) attempt older fate s.orderly.1 apart is in
     let passed = passed_at w attempt.author (slot_of id (attempt ∷ older)) attempt.kind fate.kind d.number d.attempt s.fits.passed in
     let answered = passed_delivery w attempt.author (slot_of id (attempt ∷ older)) d.error
     (subst (λ (k : Kind). PassedClosed w attempt.author (slot_of id (attempt ∷ older)) k ⊎ PassedLost w attempt.author k) d.delivered passed) in
@@ -235,23 +246,61 @@ delivery w keeps links told id (fate ∷ attempt ∷ older) chosen is =
       older = older;
       number = d.number;
       error = d.error;
-      chain_is = refl;
+      chain_is = open_kind fate.kind (fate ∷ attempt ∷ older) (attempt ∷ older) apart;
       attempted = d.attempt;
       delivered = d.delivered;
       author = d.same;
       granted = granted_before w.past told.timely attempt.author (slot_of id (attempt ∷ older)) (Concluded Delivered d.error) answered;
     }
 
+-- a Told stands on the delivery of the chain below it
+told_delivery : (w : World) → Keeps w → Links w → (id : ℕ) (newest : Decree) (older : List Decree) → Chosen w id (newest ∷ older) → newest.kind ≡ Told →
+    IsDelivery id older w.past →
+    IsDelivery id (newest ∷ older) w.past
+told_delivery w keeps links id newest [] chosen is d = cc
+told_delivery w keeps links id newest (older ∷ oldest) chosen is d =
+    let s = standing w keeps links id (newest ∷ older ∷ oldest) chosen in
+    record {
+      fate = d.fate;
+      attempt = d.attempt;
+      older = d.older;
+      number = d.number;
+      error = d.error;
+      chain_is = untold_told newest (older ∷ oldest) is ∙ (sym (untold_below _ (older ∷ oldest) newest s.orderly.1) ∙ d.chain_is);
+      attempted = d.attempted;
+      delivered = d.delivered;
+      author = d.author;
+      granted = d.granted;
+    }
+
+delivery : (w : World) → Keeps w → Links w → Truthful w → (id : ℕ) (chain : List Decree) → Chosen w id chain → final_in chain ≡ Some Delivered →
+    IsDelivery id chain w.past
+delivery w keeps links told id [] chosen is = cc
+delivery w keeps links told id (newest ∷ older) chosen is = elim (told_or_not newest.kind) [
+  | inl ends ↦ told_delivery w keeps links id newest older chosen ends
+      (below w keeps links told id newest older chosen ends (ap (λ (kind : Kind). final_by kind (final_in older)) (sym ends) ∙ is))
+  | inr apart ↦ untold_delivery w keeps links told id newest older chosen apart is
+]
+  where
+    below : (w : World) → Keeps w → Links w → Truthful w → (id : ℕ) (newest : Decree) (older : List Decree) → Chosen w id (newest ∷ older) →
+        newest.kind ≡ Told → final_in older ≡ Some Delivered →
+        IsDelivery id older w.past
+    below w keeps links told id newest [] chosen ends is = cc
+    below w keeps links told id newest (older ∷ oldest) chosen ends is =
+        let s = standing w keeps links id (newest ∷ older ∷ oldest) chosen in
+        untold_delivery w keeps links told id older oldest (record { ballot = s.fits.ballot; chosen = s.fits.chosen })
+        (λ told_too. told_ends _ older oldest newest told_too s.orderly.1) is
+
 -- ---- every world that is reached
 
-granted_by : (w : World) → Told w → (node : ℕ) (act : Act) (slot : Slot) → In slot (actor_by node (w.actors node) act).granted →
+granted_by : (w : World) → Truthful w → (node : ℕ) (act : Act) (slot : Slot) → In slot (actor_by node (w.actors node) act).granted →
     In (deed_by (record { node = node; incarnation = (actor_by node (w.actors node) act).incarnation }) (Grants slot)) (after w node act).past
 granted_by w told node (Grants other) slot (inl new) = inl (λ i. record { node = node; incarnation = (w.actors node).incarnation; act = Grants (new i) })
 granted_by w told node (Grants other) slot (inr old) = inr (told.granted node slot old)
 granted_by w told node (Restarts lost serial) slot is_in = absurd is_in
 granted_by w told node act slot is_in = inr (told.granted node slot is_in)
 
-granted_after : (w : World) → Told w → (node : ℕ) (act : Act) (other : ℕ) (slot : Slot) →
+granted_after : (w : World) → Truthful w → (node : ℕ) (act : Act) (other : ℕ) (slot : Slot) →
     In slot ((after w node act).actors other).granted →
     In (deed_by (record { node = other; incarnation = ((after w node act).actors other).incarnation }) (Grants slot)) (after w node act).past
 granted_after w told node act other slot is_in = elim (actors_after w node act other) [
@@ -265,7 +314,7 @@ granted_after w told node act other slot is_in = elim (actors_after w node act o
       inr (told.granted other slot (subst (λ (a : Actor). In slot a.granted) elsewhere is_in)))
 ]
 
-timely_new : (w : World) → Keeps w → Links w → Told w → (node : ℕ) (act : Act) → MayLoosely w node act →
+timely_new : (w : World) → Keeps w → Links w → Truthful w → (node : ℕ) (act : Act) → MayLoosely w node act →
     Timely (record { node = node; incarnation = (w.actors node).incarnation; act = act }) w.past
 timely_new w keeps links told node act may = record {
   answers = λ slot outcome is. let m : MayLoosely w node (Concludes slot outcome) = subst (MayLoosely w node) is may in told.granted node slot m.needs;
@@ -274,14 +323,14 @@ timely_new w keeps links told node act may = record {
   delivers = λ id chain tells is. delivery w keeps links told id chain (known_chosen w keeps node id chain (may.known id chain tells)) is;
 }
 
-pub told_after : (w : World) → Keeps w → Links w → Told w → (node : ℕ) (act : Act) → MayLoosely w node act → Told (after w node act)
+pub told_after : (w : World) → Keeps w → Links w → Truthful w → (node : ℕ) (act : Act) → MayLoosely w node act → Truthful (after w node act)
 told_after w keeps links told node act may = record {
   chosen = chosen_after w keeps told node act may;
   granted = granted_after w told node act;
   timely = (timely_new w keeps links told node act may, told.timely);
 }
 
-pub told_start : (nodes : ℕ) (serials : ℕ → ℕ) → Told (start nodes serials)
+pub told_start : (nodes : ℕ) (serials : ℕ → ℕ) → Truthful (start nodes serials)
 told_start nodes serials = record {
   chosen = λ deed id chain is_in tells. absurd is_in;
   granted = λ node slot is_in. absurd is_in;

@@ -2,7 +2,7 @@
 use Rattle.std.proofs.Common.{◌≡◌, ◌⊎◌, ℕ, ◌<◌, ◌≤◌, List, [], ◌∷◌, Option, Some, None, refl, sym, ◌∙◌, ap, subst, inl, inr, arith}
 use Rattle.std.proofs.lemmas.Bool.{cases_eq}
 use Rattle.mc_model.specs.message.Submission.{Submission}
-use Rattle.mc_model.specs.message.Decree.{Author, Decree, Kind, Taken, Attempt, Failed, Fate, Delivered, Expired, Deleted, Undeliverable, Rejected}
+use Rattle.mc_model.specs.message.Decree.{Author, Decree, Kind, Taken, Attempt, Failed, Fate, Told, Delivered, Expired, Deleted, Undeliverable, Rejected}
 use Rattle.mc_model.specs.message.Neighbours.{MayFollow}
 use Rattle.mc_model.specs.message.Chain.{MayExtend}
 use Rattle.mc_model.specs.synod.Lists.{In}
@@ -43,6 +43,7 @@ Passed w attempted slot (Taken message) next = Unit {0}
 Passed w attempted slot (Attempt number) next = PassedClosed w attempted slot next ⊎ PassedLost w attempted next
 Passed w attempted slot (Failed error) next = Unit {0}
 Passed w attempted slot (Fate final error) next = Unit {0}
+Passed w attempted slot Told next = Unit {0}
 
 pub record Linked (w : World) (id : ℕ) (next newest : Decree) (older : List Decree) : Type 0 where
   pub ballot : ℕ
@@ -95,6 +96,7 @@ passed_still w v grown attempted slot (Attempt number) next (inr lost) =
     inr (record { later = let more = grown.incarnations attempted.node in omega (arith, more, lost.later); kind = lost.kind })
 passed_still w v grown attempted slot (Failed error) next passed = tt
 passed_still w v grown attempted slot (Fate final error) next passed = tt
+passed_still w v grown attempted slot Told next passed = tt
 
 fits_still : (w v : World) → Grows w v → (id : ℕ) (chain : List Decree) → ChainFits w id chain → ChainFits v id chain
 fits_still w v grown id [] fits = tt
@@ -116,17 +118,18 @@ chosen_standing w keeps links slot vote chosen =
     links.standing slot vote (keeps.proposed (cast voter.node slot vote) voter.one)
 
 -- an attempt's outcome is decided by its node
-attempt_node : (message : Submission) (attempts : ℕ) (old : Author) (before number : ℕ) (author : Author) (moment : ℕ) (next : Kind) →
-    MayFollow message attempts old before (Attempt number) author moment next →
+attempt_node : (message : Submission) (home attempts : ℕ) (old : Author) (before number : ℕ) (author : Author) (moment : ℕ) (next : Kind) →
+    MayFollow message home attempts old before (Attempt number) author moment next →
     old.node ≡ author.node
-attempt_node message attempts old before number author moment (Failed error) may = sym may.node
-attempt_node message attempts old before number author moment (Fate Delivered error) may = ap (λ (a : Author). a.node) (sym may)
-attempt_node message attempts old before number author moment (Fate Undeliverable error) may = ap (λ (a : Author). a.node) (sym may)
-attempt_node message attempts old before number author moment (Fate Rejected error) may = ap (λ (a : Author). a.node) (sym may)
-attempt_node message attempts old before number author moment (Fate Expired error) may = absurd may
-attempt_node message attempts old before number author moment (Fate Deleted error) may = absurd may
-attempt_node message attempts old before number author moment (Taken other) may = absurd may
-attempt_node message attempts old before number author moment (Attempt other) may = absurd may
+attempt_node message home attempts old before number author moment (Failed error) may = sym may.node
+attempt_node message home attempts old before number author moment (Fate Delivered error) may = ap (λ (a : Author). a.node) (sym may)
+attempt_node message home attempts old before number author moment (Fate Undeliverable error) may = ap (λ (a : Author). a.node) (sym may)
+attempt_node message home attempts old before number author moment (Fate Rejected error) may = ap (λ (a : Author). a.node) (sym may)
+attempt_node message home attempts old before number author moment (Fate Expired error) may = absurd may
+attempt_node message home attempts old before number author moment (Fate Deleted error) may = absurd may
+attempt_node message home attempts old before number author moment (Taken other) may = absurd may
+attempt_node message home attempts old before number author moment (Attempt other) may = absurd may
+attempt_node message home attempts old before number author moment Told may = absurd may
 
 passed_attempt : (w : World) → Links w → (node : ℕ) (slot : Slot) (attempted : Author) (next : Kind) → attempted.node ≡ node →
     IsClosed (w.actors node) slot attempted next ⊎ IsLost (w.actors node) attempted next →
@@ -144,15 +147,16 @@ passed_attempt w links node slot attempted next is (inr lost) =
     inr (record { later = subst (λ (n : ℕ). attempted.incarnation < (w.actors n).incarnation) (sym is) lost.incarnation; kind = lost.kind })
 
 own_passed : (w : World) → Links w →
-    (node : ℕ) (slot : Slot) (taken : Submission) (attempts : ℕ) (attempted author : Author) (before moment : ℕ) (kind next : Kind) →
-    author.node ≡ node → MayFollow taken attempts attempted before kind author moment next →
+    (node : ℕ) (slot : Slot) (taken : Submission) (home attempts : ℕ) (attempted author : Author) (before moment : ℕ) (kind next : Kind) →
+    author.node ≡ node → MayFollow taken home attempts attempted before kind author moment next →
     Allows (w.actors node) slot taken attempted kind next →
     Passed w attempted slot kind next
-own_passed w links node slot taken attempts attempted author before moment (Taken message) next is may allowed = tt
-own_passed w links node slot taken attempts attempted author before moment (Attempt number) next is may allowed =
-    passed_attempt w links node slot attempted next (attempt_node taken attempts attempted before number author moment next may ∙ is) allowed
-own_passed w links node slot taken attempts attempted author before moment (Failed error) next is may allowed = tt
-own_passed w links node slot taken attempts attempted author before moment (Fate final error) next is may allowed = tt
+own_passed w links node slot taken home attempts attempted author before moment (Taken message) next is may allowed = tt
+own_passed w links node slot taken home attempts attempted author before moment (Attempt number) next is may allowed =
+    passed_attempt w links node slot attempted next (attempt_node taken home attempts attempted before number author moment next may ∙ is) allowed
+own_passed w links node slot taken home attempts attempted author before moment (Failed error) next is may allowed = tt
+own_passed w links node slot taken home attempts attempted author before moment (Fate final error) next is may allowed = tt
+own_passed w links node slot taken home attempts attempted author before moment Told next is may allowed = tt
 
 first_standing : (w : World) (node id : ℕ) (chain : List Decree) → IsFirst node (w.actors node) id chain →
     IsOrderly chain × ChainFits w id chain
@@ -172,7 +176,7 @@ next_standing w keeps links node id chain n =
         ballot = n.ballot;
         chosen = n.chosen;
         passed = own_passed w links node (slot_of id
-            (n.newest ∷ n.older)) n.taken _ n.newest.author n.next.author n.newest.moment n.next.moment n.newest.kind n.next.kind
+            (n.newest ∷ n.older)) n.taken _ _ n.newest.author n.next.author n.newest.moment n.next.moment n.newest.kind n.next.kind
             (ap (λ (a : Author). a.node) n.author) n.may.1 n.allowed;
       },
     )

@@ -14,14 +14,14 @@ use Rattle.mc_model.specs.cluster.Loose.{MayLoosely, IsLooseRun, LooseRun, end_o
 use Rattle.mc_parts.proofs.Stable.{stable}
 use Rattle.mc_laws.proofs.invariant.Keeping.{Keeps, sound, keeps_start, keeps_after}
 use Rattle.mc_laws.proofs.invariant.Links.{Links, ChainFits, links_start, links_after}
-use Rattle.mc_laws.proofs.invariant.Orderly.{IsOrderly, fate_is_last}
+use Rattle.mc_laws.proofs.invariant.Orderly.{IsOrderly, state_stays}
 use Rattle.mc_laws.proofs.invariant.Agreement.{Chosen, standing, begins, agree}
-use Rattle.mc_laws.proofs.invariant.Fated.{open_passed, passed_at, Timely, AllTimely, Told, told_start, told_after}
+use Rattle.mc_laws.proofs.invariant.Fated.{open_passed, passed_at, Timely, AllTimely, Truthful, told_start, told_after}
 
 pub record HoldsLoosely (w : World) : Type 0 where
   pub keeps : Keeps w
   pub links : Links w
-  pub told : Told w
+  pub told : Truthful w
 
 pub loosely_after : (w : World) → HoldsLoosely w → (node : ℕ) (act : Act) → MayLoosely w node act → HoldsLoosely (after w node act)
 loosely_after w h node act may = record {
@@ -42,22 +42,21 @@ holds_at_end run = holds_loosely run.nodes run.serials run.acts run.may
 
 -- ---- one fate
 
--- a chosen chain with a fate is as long as any
+-- a chosen chain with a fate, or one that goes on from it, has the same
 pub longest_fate : (w : World) → HoldsLoosely w → (id : ℕ) (one other : List Decree) (final : Final) → Chosen w id one → Chosen w id other →
     final_in one ≡ Some final → length one ≤ length other →
-    other ≡ one
+    final_in other ≡ Some final
 longest_fate w h id one other final is_one is_other ends long =
     let b = begins w h.keeps h.links id one other is_one is_other long in
     let s = standing w h.keeps h.links id other is_other in
-    let last = fate_is_last one b.more final (subst IsOrderly b.chain_is s.orderly) ends in
-    b.chain_is ∙ ap (λ (m : List Decree). m ++ one) last
+    ap final_in b.chain_is ∙ state_stays one b.more final (subst IsOrderly b.chain_is s.orderly) ends
 
 fates_same : (w : World) → HoldsLoosely w → (id : ℕ) (one other : List Decree) (first second : Final) → Chosen w id one → Chosen w id other →
     final_in one ≡ Some first → final_in other ≡ Some second → length one ≤ length other →
     first ≡ second
 fates_same w h id one other first second is_one is_other ends_one ends_other long =
     let same = longest_fate w h id one other first is_one is_other ends_one long in
-    let both : Some first ≡ Some second = sym ends_one ∙ ap final_in (sym same) ∙ ends_other in
+    let both : Some first ≡ Some second = sym same ∙ ends_other in
     cc
 
 pub same_fates : (w : World) → HoldsLoosely w → (id : ℕ) (one other : List Decree) (first second : Final) → Chosen w id one →

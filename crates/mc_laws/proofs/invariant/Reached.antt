@@ -10,7 +10,7 @@ use Rattle.mc_laws.proofs.invariant.Loosening.{loosely}
 use Rattle.mc_laws.proofs.invariant.Keeping.{Keeps, ToldVotes, keeps_start, keeps_after, told_votes_after}
 use Rattle.mc_laws.proofs.invariant.Links.{Links, links_start, links_after}
 use Rattle.mc_laws.proofs.invariant.Agreement.{Chosen}
-use Rattle.mc_laws.proofs.invariant.Fated.{AcceptedHaveChains, Told, accepted_after, told_start, told_after}
+use Rattle.mc_laws.proofs.invariant.Fated.{AcceptedHaveChains, Truthful, accepted_after, told_start, told_after}
 use Rattle.mc_laws.proofs.invariant.LooseRuns.{HoldsLoosely, delivery_behind, longest_fate, none_granted_after, one_fate_stated, same_fates}
 use Rattle.mc_laws.proofs.invariant.Permitted.{Permitted, permitted_after, permitted_start}
 use Rattle.mc_laws.proofs.invariant.Deletions.{Deletions, deletions_start, deletions_after}
@@ -24,7 +24,7 @@ use Rattle.mc_laws.proofs.invariant.Stopping.{StaysDown, down_after}
 pub record Holds (w : World) : Type 0 where
   pub keeps : Keeps w
   pub links : Links w
-  pub told : Told w
+  pub told : Truthful w
   pub accepted : AcceptedHaveChains w
   pub told_votes : ToldVotes w
   pub permitted : Permitted w
@@ -81,7 +81,7 @@ loosened w h = record { keeps = h.keeps; links = h.links; told = h.told }
 
 pub fate_longest : (w : World) → Holds w → (id : ℕ) (one other : List Decree) (final : Final) → Chosen w id one → Chosen w id other →
     final_in one ≡ Some final → length one ≤ length other →
-    other ≡ one
+    final_in other ≡ Some final
 fate_longest w h = longest_fate w (loosened w h)
 
 pub chosen_fates_same : (w : World) → Holds w → (id : ℕ) (one other : List Decree) (first second : Final) → Chosen w id one →

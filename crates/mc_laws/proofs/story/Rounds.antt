@@ -2,7 +2,7 @@
 use Rattle.std.proofs.Common.{◌≡◌, ℕ, zero, suc, ◌<◌, ◌≤◌, Bool, true, false, List, ◌∷◌, map, None, refl, sym, ap, subst, inl, inr, arith}
 use Rattle.std.specs.Prelude.{if◌then◌else◌}
 use Rattle.mc_model.specs.message.Submission.{Submission}
-use Rattle.mc_model.specs.message.Decree.{Author, Decree, Kind, Taken, Attempt, Failed, Fate, Delivered, Expired, Deleted, Undeliverable, Rejected}
+use Rattle.mc_model.specs.message.Decree.{Author, Decree, Kind, Taken, Attempt, Failed, Fate, Told, Delivered, Expired, Deleted, Undeliverable, Rejected}
 use Rattle.mc_model.specs.synod.Lists.{In}
 use Rattle.mc_model.specs.synod.Majority.{Majority, IsMajority, count}
 use Rattle.mc_model.specs.synod.Ballot.{proposer_of, incarnation_in}
@@ -79,6 +79,19 @@ allowed_still a received sent offers slot taken attempted (Fate final cause) (Fa
 allowed_still a received sent offers slot taken attempted (Fate final cause) (Taken other) c = tt
 allowed_still a received sent offers slot taken attempted (Fate final cause) (Attempt number) c = tt
 allowed_still a received sent offers slot taken attempted (Fate final cause) (Failed error) c = tt
+allowed_still a received sent offers slot taken attempted (Taken message) Told c = tt
+allowed_still a received sent offers slot taken attempted (Failed cause) Told c = tt
+allowed_still a received sent offers slot taken attempted (Fate final cause) Told c = tt
+allowed_still a received sent offers slot taken attempted Told (Fate Deleted error) c =
+    record { waiting = c.waiting; waits = c.waits; settled = c.settled; cancels = c.cancels }
+allowed_still a received sent offers slot taken attempted Told (Fate Delivered error) c = tt
+allowed_still a received sent offers slot taken attempted Told (Fate Expired error) c = tt
+allowed_still a received sent offers slot taken attempted Told (Fate Undeliverable error) c = tt
+allowed_still a received sent offers slot taken attempted Told (Fate Rejected error) c = tt
+allowed_still a received sent offers slot taken attempted Told (Taken other) c = tt
+allowed_still a received sent offers slot taken attempted Told (Attempt number) c = tt
+allowed_still a received sent offers slot taken attempted Told (Failed error) c = tt
+allowed_still a received sent offers slot taken attempted Told Told c = tt
 
 -- a chain of a node's own is its own also where it has received and sent more
 own_still : (Chosen Later : Slot → Vote → Type 0) (a b : Actor) (id : ℕ) (chain : List Decree) →
