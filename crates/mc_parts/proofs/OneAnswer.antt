@@ -1,14 +1,13 @@
 -- What a node knows gives a request one answer at most.
-use Rattle.std.proofs.Common.{◌≡◌, ℕ, List, Option, Some, refl, sym, ◌∙◌, ap, subst}
+use Rattle.std.proofs.Common.{◌≡◌, ℕ, List, Option, Some, None, refl, sym, ◌∙◌, ap, subst}
 use Rattle.mc_model.specs.message.Submission.{Submission}
-use Rattle.mc_model.specs.message.Decree.{Decree, Kind, Final, Taken, Attempt, Failed, Fate, Told, Delivered, Expired, Deleted, Undeliverable, Rejected}
-use Rattle.mc_model.specs.message.Chain.{taken_in, final_in, final_by, untold}
+use Rattle.mc_model.specs.message.Decree.{Decree, Kind, Final, Delivered, Expired, Deleted, Undeliverable, Rejected}
+use Rattle.mc_model.specs.message.Chain.{taken_in, final_in}
 use Rattle.mc_model.specs.node.Actor.{Actor, Request, Submit, Query, Cancel, Waiting, id_in}
 use Rattle.mc_model.specs.node.Knowledge.{Knows, KnowsNothing}
 use Rattle.mc_model.specs.node.Proposal.{IsOwner, IsMatch}
 use Rattle.mc_model.specs.node.Replies.{Answer, Accepted, Shown, Removed, Kept, NotOwner, NotMatched, Unknown, KeepsMessage, FitsSubmit}
 use Rattle.mc_model.specs.node.Replies.{FitsQuery, FitsCancel, FitsRequest}
-use Rattle.mc_parts.proofs.Fates.{state_of_untold}
 use Rattle.mc_parts.proofs.Known.{knows_one}
 
 -- what is known is not unknown
@@ -24,16 +23,13 @@ one_taken nodes a id one other first second knows also is_first is_second =
     cc
 
 -- what deletes a message does not keep it
-not_kept : (kind : Kind) (older : Option Final) → final_by kind older ≡ Some Deleted → KeepsMessage kind → ⊥
-not_kept (Taken message) older is kept = kept
-not_kept (Attempt number) older is kept = cc
-not_kept (Failed error) older is kept = kept
-not_kept (Fate Delivered error) older is kept = cc
-not_kept (Fate Expired error) older is kept = cc
-not_kept (Fate Deleted error) older is kept = kept
-not_kept (Fate Undeliverable error) older is kept = cc
-not_kept (Fate Rejected error) older is kept = cc
-not_kept Told older is kept = kept
+not_kept : (state : Option Final) (kind : Kind) → state ≡ Some Deleted → KeepsMessage state kind → ⊥
+not_kept None kind is kept = cc
+not_kept (Some Delivered) kind is kept = cc
+not_kept (Some Expired) kind is kept = cc
+not_kept (Some Deleted) kind is kept = kept
+not_kept (Some Undeliverable) kind is kept = cc
+not_kept (Some Rejected) kind is kept = cc
 
 one_submit : (nodes : ℕ) (a : Actor) (id : ℕ) (one other : Answer) → FitsSubmit nodes a id one → FitsSubmit nodes a id other → one ≡ other
 one_submit nodes a id Accepted Accepted x y = refl
@@ -71,7 +67,7 @@ module _ (nodes node : ℕ) (a : Actor) (w : Waiting) where
       ⊥
   removed_or_kept account source destination chain kept x y =
       let same = knows_one nodes a.received id chain kept x.known y.known in
-      not_kept y.newest.kind _ (ap final_in (sym (ap untold same ∙ y.chain_is)) ∙ (state_of_untold chain ∙ x.deleted)) y.kept
+      not_kept (final_in kept) y.newest.kind (ap final_in (sym same) ∙ x.deleted) y.kept
 
   matched_or_not : (account source destination : List ℕ) (one other : List Decree) (first second : Submission) →
       Knows nodes a.received id one → Knows nodes a.received id other → taken_in one ≡ Some first → taken_in other ≡ Some second →

@@ -4,8 +4,8 @@ use Rattle.std.specs.Option.{is_none}
 use Rattle.std.specs.Str.{bytes_eq}
 use Rattle.mc_model.specs.message.Ids.{node_of}
 use Rattle.mc_model.specs.message.Submission.{Submission}
-use Rattle.mc_model.specs.message.Decree.{Attempt, Decree, Deleted, Delivered, Expired, Failed, Fate, Final, Kind, Rejected, Taken, Told, Undeliverable}
-use Rattle.mc_model.specs.message.Chain.{final_in, taken_in, untold}
+use Rattle.mc_model.specs.message.Decree.{Attempt, Decree, Deleted, Delivered, Expired, Final, Kind, Rejected, Undeliverable}
+use Rattle.mc_model.specs.message.Chain.{final_in, taken_in}
 use Rattle.mc_model.specs.node.Actor.{Cancel, Query, Request, Submit}
 use Rattle.mc_model.specs.node.Replies.{Accepted, Answer, Kept as Keeps, NotMatched, NotOwner, Removed, Shown, Unknown}
 use Rattle.mc_model.specs.node.Outputs.{Receipt, Reply}
@@ -20,24 +20,19 @@ abbrev pub is_match : Submission → List ℕ → List ℕ → List ℕ → Bool
 is_match message account source destination =
     is_owner message account source && (bytes_eq destination [] || bytes_eq message.destination.digits destination)
 
--- a cancel_sm that came before this decree, the newest but Told, is answered by it; a message that waits for an attempt is to be deleted first
-abbrev pub cancel_answer : Kind → List Decree → Option Answer
-cancel_answer (Taken message) chain = None
-cancel_answer (Attempt number) chain = Some (Keeps chain)
-cancel_answer (Failed error) chain = None
-cancel_answer (Fate Delivered error) chain = Some (Keeps chain)
-cancel_answer (Fate Expired error) chain = Some (Keeps chain)
-cancel_answer (Fate Deleted error) chain = Some (Removed chain)
-cancel_answer (Fate Undeliverable error) chain = Some (Keeps chain)
-cancel_answer (Fate Rejected error) chain = Some (Keeps chain)
-cancel_answer Told chain = None
-
-abbrev pub cancel_answer_by : List Decree → List Decree → Option Answer
-cancel_answer_by [] chain = None
-cancel_answer_by (newest ∷ older) chain = cancel_answer newest.kind chain
+-- a cancel_sm is answered by the state of its message, and by the newest decree; a message that waits for an attempt is to be deleted first
+abbrev pub cancel_answer : Option Final → Kind → List Decree → Option Answer
+cancel_answer None (Attempt number) chain = Some (Keeps chain)
+cancel_answer None kind chain = None
+cancel_answer (Some Delivered) kind chain = Some (Keeps chain)
+cancel_answer (Some Expired) kind chain = Some (Keeps chain)
+cancel_answer (Some Deleted) kind chain = Some (Removed chain)
+cancel_answer (Some Undeliverable) kind chain = Some (Keeps chain)
+cancel_answer (Some Rejected) kind chain = Some (Keeps chain)
 
 abbrev pub cancel_answer_of : List Decree → Option Answer
-cancel_answer_of chain = cancel_answer_by (untold chain) chain
+cancel_answer_of [] = None
+cancel_answer_of (newest ∷ older) = cancel_answer (final_in (newest ∷ older)) newest.kind (newest ∷ older)
 
 -- of the chain of a message that was taken
 abbrev pub query_shown : List ℕ → List ℕ → List Decree → Option Submission → Option Answer

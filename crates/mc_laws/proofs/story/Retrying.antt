@@ -1,9 +1,9 @@
 -- A tick starts a round for a vote beyond what is known, for a submit_sm and for a cancel_sm that wait.
-use Rattle.std.proofs.Common.{◌≡◌, ℕ, suc, ◌+◌, ◌<◌, ◌≤◌, Bool, true, false, List, [], ◌∷◌, ◌++◌, Some, None, refl, sym, ◌∙◌, ap, subst, inl, inr, arith}
+use Rattle.std.proofs.Common.{◌≡◌, ℕ, suc, ◌+◌, ◌<◌, ◌≤◌, Bool, true, false, List, [], ◌∷◌, ◌++◌, Some, None, refl, sym, ◌∙◌, ap, subst, subst₂, inl, inr, arith}
 use Rattle.std.specs.Prelude.{if◌then◌else◌}
 use Rattle.mc_model.specs.message.Submission.{Submission}
 use Rattle.mc_model.specs.message.Decree.{Decree, Attempt, Taken, Deleted}
-use Rattle.mc_model.specs.message.Chain.{final_in, taken_in, untold}
+use Rattle.mc_model.specs.message.Chain.{final_in, taken_in}
 use Rattle.mc_model.specs.synod.Ballot.{round_in}
 use Rattle.mc_model.specs.synod.Lists.{In}
 use Rattle.mc_model.specs.synod.Majority.{Majority}
@@ -436,9 +436,10 @@ module _ (message : Submission) where
   no_answer waiting (Removed chain) fits about = let same = known_is (id_in waiting.request) chain fits.known in
       let none : Some Deleted ≡ None = sym fits.deleted ∙ ap final_in same in cc
   no_answer waiting (Kept chain) fits about =
-      let same : (fits.newest ∷ fits.older) ≡ taken_chain message = sym fits.chain_is ∙ ap untold (known_is (id_in waiting.request) chain fits.known) in
+      let chains : chain ≡ taken_chain message = known_is (id_in waiting.request) chain fits.known in
+      let same : (fits.newest ∷ fits.older) ≡ taken_chain message = sym fits.chain_is ∙ chains in
       let heads : fits.newest ≡ decreed (Taken message) = cc in
-      subst (λ (d : Decree). KeepsMessage d.kind) heads fits.kept
+      subst₂ (λ (c : List Decree) (d : Decree). KeepsMessage (final_in c) d.kind) chains heads fits.kept
   no_answer waiting (NotMatched chain) fits about =
       let same = known_is (id_in waiting.request) chain fits.known in
       let takens : Some fits.taken ≡ Some message = sym fits.message ∙ ap taken_in same in

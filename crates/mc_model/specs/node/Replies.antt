@@ -1,24 +1,10 @@
 -- What a request that waited is answered, and what of it states the fate of a message (SMPP 3.4, 4.4.2, 4.8.2, 4.9.2
 -- and appendix B).
-use Rattle.std.specs.Prelude.{◌≡◌, ℕ, ◌+◌, ◌≤◌, true, List, ◌∷◌, Some, None}
+use Rattle.std.specs.Prelude.{◌≡◌, ℕ, ◌+◌, ◌≤◌, true, List, ◌∷◌, Option, Some, None}
 use Rattle.mc_model.specs.message.Ids.{node_of}
 use Rattle.mc_model.specs.message.Submission.{Submission}
-use Rattle.mc_model.specs.message.Decree.{
-  Attempt,
-  Decree,
-  Deleted,
-  Delivered,
-  Expired,
-  Failed,
-  Fate,
-  Final,
-  Kind,
-  Rejected,
-  Taken,
-  Told,
-  Undeliverable,
-}
-use Rattle.mc_model.specs.message.Chain.{final_in, taken_in, untold}
+use Rattle.mc_model.specs.message.Decree.{Attempt, Decree, Deleted, Delivered, Expired, Final, Kind, Rejected, Undeliverable}
+use Rattle.mc_model.specs.message.Chain.{final_in, taken_in}
 use Rattle.mc_model.specs.node.Actor.{Actor, Cancel, Query, Request, Submit, Waiting, id_in, name_of}
 use Rattle.mc_model.specs.node.Room.{IsWaiting}
 use Rattle.mc_model.specs.node.Knowledge.{Knows, KnowsNothing}
@@ -47,17 +33,15 @@ pub data Answer : Type 0 where
 abbrev pub longest_wait : ℕ
 longest_wait = 30
 
--- by the newest decree but Told: a message that was taken is to be deleted, or an attempt of it is open, or it has another fate
-abbrev pub KeepsMessage : Kind → Type 0
-KeepsMessage (Taken message) = ⊥
-KeepsMessage (Attempt number) = Unit {0}
-KeepsMessage (Failed error) = ⊥
-KeepsMessage (Fate Delivered error) = Unit {0}
-KeepsMessage (Fate Expired error) = Unit {0}
-KeepsMessage (Fate Deleted error) = ⊥
-KeepsMessage (Fate Undeliverable error) = Unit {0}
-KeepsMessage (Fate Rejected error) = Unit {0}
-KeepsMessage Told = ⊥
+-- by its state and its newest decree: an attempt of the message is open, or it has another final state than DELETED
+abbrev pub KeepsMessage : Option Final → Kind → Type 0
+KeepsMessage None (Attempt number) = Unit {0}
+KeepsMessage None kind = ⊥
+KeepsMessage (Some Delivered) kind = Unit {0}
+KeepsMessage (Some Expired) kind = Unit {0}
+KeepsMessage (Some Deleted) kind = ⊥
+KeepsMessage (Some Undeliverable) kind = Unit {0}
+KeepsMessage (Some Rejected) kind = Unit {0}
 
 pub record IsUnknown (nodes node : ℕ) (a : Actor) (w : Waiting) : Type 0 where
   pub nothing : KnowsNothing nodes a.received (id_in w.request)
@@ -101,8 +85,8 @@ pub record IsKept (nodes : ℕ) (a : Actor) (w : Waiting) (account source destin
   pub settled : w.settled ≡ true
   pub message : taken_in chain ≡ Some taken
   pub matched : IsMatch taken account source destination
-  pub chain_is : untold chain ≡ newest ∷ older
-  pub kept : KeepsMessage newest.kind
+  pub chain_is : chain ≡ newest ∷ older
+  pub kept : KeepsMessage (final_in chain) newest.kind
 
 pub record IsNotMatched (nodes : ℕ) (a : Actor) (w : Waiting) (account source destination : List ℕ)
     (chain : List Decree) : Type 0 where

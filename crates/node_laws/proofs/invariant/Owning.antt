@@ -1,7 +1,7 @@
 -- A chain of its own that a node may propose is one later, too.
 use Rattle.std.proofs.Common.{◌≡◌, ℕ, ◌<◌, max, true, List, [], ◌∷◌, refl, sym, ap, subst, ◌∙◌, inl, inr}
 use Rattle.mc_model.specs.message.Submission.{Submission}
-use Rattle.mc_model.specs.message.Decree.{Attempt, Author, Decree, Deleted, Failed, Fate, Kind, Taken}
+use Rattle.mc_model.specs.message.Decree.{Attempt, Author, Decree, Deleted, Failed, Fate, Told, Kind, Taken}
 use Rattle.mc_model.specs.synod.Lists.{In}
 use Rattle.mc_model.specs.synod.OneSlot.{Vote}
 use Rattle.mc_model.specs.synod.Packet.{Slot}
@@ -46,6 +46,12 @@ module _ (nodes node id : ℕ) (a b : Actor) (ground : IsGround nodes id a b) wh
     cancels = c.cancels;
   }
   allows_later slot about taken attempted (Fate final last) (Fate Deleted error) c = record {
+    waiting = c.waiting;
+    waits = ground.cancels c.waiting taken c.waits c.settled (subst (λ (i : ℕ). Cancels c.waiting.request i taken) about c.cancels);
+    settled = c.settled;
+    cancels = c.cancels;
+  }
+  allows_later slot about taken attempted Told (Fate Deleted error) c = record {
     waiting = c.waiting;
     waits = ground.cancels c.waiting taken c.waits c.settled (subst (λ (i : ℕ). Cancels c.waiting.request i taken) about c.cancels);
     settled = c.settled;

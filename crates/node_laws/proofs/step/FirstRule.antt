@@ -5,7 +5,7 @@ use Rattle.std.specs.Prelude.{if◌then◌else◌}
 use Rattle.std.specs.Option.{option_or}
 use Rattle.std.proofs.lemmas.Bool.{true≢false}
 use Rattle.mc_model.specs.message.Submission.{Submission}
-use Rattle.mc_model.specs.message.Decree.{Attempt, Author, Decree, Expired, Failed, Fate, Kind, Taken}
+use Rattle.mc_model.specs.message.Decree.{Attempt, Author, Decree, Expired, Failed, Fate, Told, Kind, Taken}
 use Rattle.mc_model.specs.message.Neighbours.{MayFollow}
 use Rattle.mc_model.specs.message.Chain.{attempts_in, taken_in}
 use Rattle.mc_model.specs.synod.Lists.{In}
@@ -48,19 +48,21 @@ busy : (kind : Kind) (number : ℕ) → kind ≡ Attempt number → ((message : 
 busy kind number is (inl taken) = let both : Attempt number ≡ Taken taken.0 = sym is ∙ taken.1 in absurd (cc)
 busy kind number is (inr failed) = let both : Attempt number ≡ Failed failed.0 = sym is ∙ failed.1 in absurd (cc)
 
-never_expires : (kind : Kind) (number : ℕ) → kind ≡ Attempt number → (taken : Submission) (attempts : ℕ) (old author : Author) (before moment : ℕ) →
-    MayFollow taken attempts old before kind author moment (Fate Expired 0) → ⊥
-never_expires (Taken of) number is taken attempts old author before moment may = absurd (cc)
-never_expires (Attempt other) number is taken attempts old author before moment may = may
-never_expires (Failed error) number is taken attempts old author before moment may = absurd (cc)
-never_expires (Fate final error) number is taken attempts old author before moment may = may
+never_expires : (kind : Kind) (number : ℕ) → kind ≡ Attempt number → (taken : Submission) (home attempts : ℕ) (old author : Author) (before moment : ℕ) →
+    MayFollow taken home attempts old before kind author moment (Fate Expired 0) → ⊥
+never_expires (Taken of) number is taken home attempts old author before moment may = absurd (cc)
+never_expires (Attempt other) number is taken home attempts old author before moment may = may
+never_expires (Failed error) number is taken home attempts old author before moment may = absurd (cc)
+never_expires (Fate final error) number is taken home attempts old author before moment may = may
+never_expires Told number is taken home attempts old author before moment may = may
 
-never_tried : (kind : Kind) (number : ℕ) → kind ≡ Attempt number → (next : ℕ) (taken : Submission) (attempts : ℕ) (old author : Author) (before moment : ℕ) →
-    MayFollow taken attempts old before kind author moment (Attempt next) → ⊥
-never_tried (Taken of) number is next taken attempts old author before moment may = absurd (cc)
-never_tried (Attempt other) number is next taken attempts old author before moment may = may
-never_tried (Failed error) number is next taken attempts old author before moment may = absurd (cc)
-never_tried (Fate final error) number is next taken attempts old author before moment may = may
+never_tried : (kind : Kind) (number : ℕ) → kind ≡ Attempt number → (next : ℕ) (taken : Submission) (home attempts : ℕ) (old author : Author) (before moment : ℕ) →
+    MayFollow taken home attempts old before kind author moment (Attempt next) → ⊥
+never_tried (Taken of) number is next taken home attempts old author before moment may = absurd (cc)
+never_tried (Attempt other) number is next taken home attempts old author before moment may = may
+never_tried (Failed error) number is next taken home attempts old author before moment may = absurd (cc)
+never_tried (Fate final error) number is next taken home attempts old author before moment may = may
+never_tried Told number is next taken home attempts old author before moment may = may
 
 -- ---- rules by their order
 

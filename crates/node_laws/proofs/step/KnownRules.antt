@@ -8,9 +8,9 @@ use Rattle.std.specs.Option.{is_none}
 use Rattle.std.proofs.lemmas.Bool.{true≢false}
 use Rattle.std.proofs.lemmas.Bool.Decides.{Decides-and, Decides-eqb, Decides-ltb}
 use Rattle.mc_model.specs.message.Submission.{Submission}
-use Rattle.mc_model.specs.message.Decree.{Attempt, Author, Decree, Deleted, Expired, Failed, Fate, Kind, Taken, Undeliverable}
+use Rattle.mc_model.specs.message.Decree.{Attempt, Author, Decree, Deleted, Expired, Failed, Fate, Told, Kind, Taken, Undeliverable}
 use Rattle.mc_model.specs.message.Neighbours.{MayFollow, most_attempts, retry_delay}
-use Rattle.mc_model.specs.message.Chain.{MayExtend, attempts_in, taken_in}
+use Rattle.mc_model.specs.message.Chain.{MayExtend, attempts_in, home_in, taken_in}
 use Rattle.mc_model.specs.synod.Lists.{In}
 use Rattle.mc_model.specs.synod.Packet.{Slot, slot_at, slot_of}
 use Rattle.mc_model.specs.node.Actor.{Actor}
@@ -36,6 +36,7 @@ idle_kind (Taken message) idle = inl (message, refl)
 idle_kind (Attempt number) idle = absurd (true≢false (sym idle))
 idle_kind (Failed error) idle = inr (error, refl)
 idle_kind (Fate final error) idle = absurd (true≢false (sym idle))
+idle_kind Told idle = absurd (true≢false (sym idle))
 
 pub idle_decides : (newest : Decree) → Decides (is_idle newest.kind) (IsIdle newest)
 idle_decides newest = (idle_kind newest.kind, λ idle. elim idle [ inl taken ↦ ap is_idle taken.1 | inr failed ↦ ap is_idle failed.1 ])
@@ -46,6 +47,7 @@ attempt_kind node newest (Taken message) own = absurd (true≢false (sym own))
 attempt_kind node newest (Attempt number) own = ((number, refl), (Decides-eqb newest.author.node node).0 own)
 attempt_kind node newest (Failed error) own = absurd (true≢false (sym own))
 attempt_kind node newest (Fate final error) own = absurd (true≢false (sym own))
+attempt_kind node newest Told own = absurd (true≢false (sym own))
 
 pub attempt_decides : (node : ℕ) (newest : Decree) → Decides (is_attempt_by node newest newest.kind) (IsAttemptBy node newest)
 attempt_decides node newest = (
@@ -54,12 +56,13 @@ attempt_decides node newest = (
 )
 
 -- a message expires behind its taking or a failure, from its expiry on
-expires : (kind : Kind) (message : Submission) (attempt before moment : ℕ) (old author : Author) →
-    Decides (is_idle kind && nat_le message.expiry moment) (MayFollow message attempt old before kind author moment (Fate Expired 0))
-expires (Taken taken) message attempt before moment old author = nat_le_decides message.expiry moment
-expires (Attempt number) message attempt before moment old author = ((λ t. absurd (true≢false (sym t))), (λ none. absurd none))
-expires (Failed error) message attempt before moment old author = nat_le_decides message.expiry moment
-expires (Fate final error) message attempt before moment old author = ((λ t. absurd (true≢false (sym t))), (λ none. absurd none))
+expires : (kind : Kind) (message : Submission) (home attempt before moment : ℕ) (old author : Author) →
+    Decides (is_idle kind && nat_le message.expiry moment) (MayFollow message home attempt old before kind author moment (Fate Expired 0))
+expires (Taken taken) message home attempt before moment old author = nat_le_decides message.expiry moment
+expires (Attempt number) message home attempt before moment old author = ((λ t. absurd (true≢false (sym t))), (λ none. absurd none))
+expires (Failed error) message home attempt before moment old author = nat_le_decides message.expiry moment
+expires (Fate final error) message home attempt before moment old author = ((λ t. absurd (true≢false (sym t))), (λ none. absurd none))
+expires Told message home attempt before moment old author = ((λ t. absurd (true≢false (sym t))), (λ none. absurd none))
 
 -- ---- behind this decree of what is known
 
@@ -126,10 +129,10 @@ module _ (setup : Setup) (a : Actor) (k : Kept) (id : ℕ) (incarnation : k.inca
 
       holds :
           Decides (is_idle newest.kind && nat_le taken.expiry (max a.clock newest.moment))
-          (MayFollow taken (attempts_in (newest ∷ older)) newest.author newest.moment newest.kind (next_decree setup.node a newest (Fate Expired 0)).author
+          (MayFollow taken (home_in (newest ∷ older)) (attempts_in (newest ∷ older)) newest.author newest.moment newest.kind (next_decree setup.node a newest (Fate Expired 0)).author
           (max a.clock newest.moment) (Fate Expired 0))
       holds =
-          expires newest.kind taken (attempts_in (newest ∷ older)) newest.moment (max a.clock newest.moment) newest.author
+          expires newest.kind taken (home_in (newest ∷ older)) (attempts_in (newest ∷ older)) newest.moment (max a.clock newest.moment) newest.author
           (next_decree setup.node a newest (Fate Expired 0)).author
 
       by_test : (test : Bool) → (is_idle newest.kind && nat_le taken.expiry (moment_behind k newest)) ≡ test →
@@ -280,7 +283,7 @@ module _ (setup : Setup) (a : Actor) (k : Kept) (id : ℕ) (incarnation : k.inca
       allowed : (error : ℕ) → newest.kind ≡ Failed error → attempts_in (newest ∷ older) ≡ most_attempts → May (Fate Undeliverable error)
       allowed error is most = (
         later,
-        subst (λ (kind : Kind). MayFollow taken (attempts_in (newest ∷ older)) newest.author newest.moment kind
+        subst (λ (kind : Kind). MayFollow taken (home_in (newest ∷ older)) (attempts_in (newest ∷ older)) newest.author newest.moment kind
             (next_decree setup.node a newest (Fate Undeliverable error)).author (max a.clock newest.moment) (Fate Undeliverable error)) (sym is) most,
       )
 
@@ -294,7 +297,7 @@ module _ (setup : Setup) (a : Actor) (k : Kept) (id : ℕ) (incarnation : k.inca
       by_test error is false fewer = λ place chain fits.
           let may = (may_here place chain (Fate Undeliverable fits.error) fits.due).1 in
           let most =
-          subst (λ (kind : Kind). MayFollow taken (attempts_in (newest ∷ older)) newest.author newest.moment kind
+          subst (λ (kind : Kind). MayFollow taken (home_in (newest ∷ older)) (attempts_in (newest ∷ older)) newest.author newest.moment kind
           (next_decree setup.node a newest (Fate Undeliverable fits.error)).author (max a.clock newest.moment) (Fate Undeliverable fits.error)) is may in
           true≢false (sym ((Decides-eqb (attempts_in (newest ∷ older)) most_attempts).1 most) ∙ fewer)
 
@@ -303,11 +306,12 @@ module _ (setup : Setup) (a : Actor) (k : Kept) (id : ℕ) (incarnation : k.inca
       by_kind (Attempt number) is = never (Attempt number) is (λ error same. absurd (cc))
       by_kind (Failed error) is = by_test error is (attempts_in (newest ∷ older) == most_attempts) refl
       by_kind (Fate final error) is = never (Fate final error) is (λ other same. absurd (cc))
+      by_kind Told is = never Told is (λ other same. absurd (cc))
 
   -- the next attempt may follow this kind
   abbrev MayTry : Kind → ℕ → Type 0
   MayTry kind number =
-      MayFollow taken (attempts_in (newest ∷ older)) newest.author newest.moment kind (next_decree setup.node a newest (Attempt number)).author
+      MayFollow taken (home_in (newest ∷ older)) (attempts_in (newest ∷ older)) newest.author newest.moment kind (next_decree setup.node a newest (Attempt number)).author
       (max a.clock newest.moment) (Attempt number)
 
   module _ (up : List ℕ → Bool) where

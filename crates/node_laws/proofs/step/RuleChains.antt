@@ -1,9 +1,9 @@
 -- The chain of a rule's round is the node's own, at a place beyond what it knows.
 use Rattle.std.proofs.Common.{◌≡◌, ◌⊎◌, ℕ, pred, ◌<◌, ◌≤◌, Bool, List, ◌∷◌, length, Option, refl, sym, ap, subst, ◌∙◌, inl, inr, arith}
 use Rattle.mc_model.specs.message.Submission.{Submission}
-use Rattle.mc_model.specs.message.Decree.{Attempt, Author, Decree, Deleted, Delivered, Expired, Failed, Fate, Kind, Rejected, Taken, Undeliverable}
+use Rattle.mc_model.specs.message.Decree.{Attempt, Author, Decree, Deleted, Delivered, Expired, Failed, Fate, Told, Kind, Rejected, Taken, Undeliverable}
 use Rattle.mc_model.specs.message.Neighbours.{MayFollow}
-use Rattle.mc_model.specs.message.Chain.{IsPermitted, MayExtend, attempts_in, taken_in}
+use Rattle.mc_model.specs.message.Chain.{IsPermitted, MayExtend, attempts_in, home_in, taken_in}
 use Rattle.mc_model.specs.synod.Lists.{In}
 use Rattle.mc_model.specs.synod.OneSlot.{vote_at}
 use Rattle.mc_model.specs.synod.Packet.{Packet, Slot, Voted, slot_at, slot_of}
@@ -52,22 +52,23 @@ goes_on nodes node a records up id Try place chain late fits = record { kind = _
 -- ---- what may follow an attempt
 
 closing_follows : (kind : Kind) (number : ℕ) → kind ≡ Attempt number → (outcome : Outcome) → IsClosing outcome →
-    (message : Submission) (attempt : ℕ) (old author : Author) (before moment : ℕ) →
-    author ≡ old → MayFollow message attempt old before kind author moment (decree_of outcome)
-closing_follows (Taken of) number is outcome closing message attempt old author before moment same = absurd (cc)
-closing_follows (Attempt tried) number is (Unanswered error) closing message attempt old author before moment same = record {
+    (message : Submission) (home attempt : ℕ) (old author : Author) (before moment : ℕ) →
+    author ≡ old → MayFollow message home attempt old before kind author moment (decree_of outcome)
+closing_follows (Taken of) number is outcome closing message home attempt old author before moment same = absurd (cc)
+closing_follows (Attempt tried) number is (Unanswered error) closing message home attempt old author before moment same = record {
   node = ap (λ (x : Author). x.node) same;
   incarnation = let incarnations = ap (λ (x : Author). x.incarnation) same in omega arith;
 }
-closing_follows (Attempt tried) number is (Concluded Delivered error) closing message attempt old author before moment same = same
-closing_follows (Attempt tried) number is (Concluded Undeliverable error) closing message attempt old author before moment same = same
-closing_follows (Attempt tried) number is (Concluded Rejected error) closing message attempt old author before moment same = same
-closing_follows (Attempt tried) number is (Concluded Expired error) (inl none) message attempt old author before moment same = absurd none
-closing_follows (Attempt tried) number is (Concluded Expired error) (inr other) message attempt old author before moment same = absurd (cc)
-closing_follows (Attempt tried) number is (Concluded Deleted error) (inl none) message attempt old author before moment same = absurd none
-closing_follows (Attempt tried) number is (Concluded Deleted error) (inr other) message attempt old author before moment same = absurd (cc)
-closing_follows (Failed error) number is outcome closing message attempt old author before moment same = absurd (cc)
-closing_follows (Fate final error) number is outcome closing message attempt old author before moment same = absurd (cc)
+closing_follows (Attempt tried) number is (Concluded Delivered error) closing message home attempt old author before moment same = same
+closing_follows (Attempt tried) number is (Concluded Undeliverable error) closing message home attempt old author before moment same = same
+closing_follows (Attempt tried) number is (Concluded Rejected error) closing message home attempt old author before moment same = same
+closing_follows (Attempt tried) number is (Concluded Expired error) (inl none) message home attempt old author before moment same = absurd none
+closing_follows (Attempt tried) number is (Concluded Expired error) (inr other) message home attempt old author before moment same = absurd (cc)
+closing_follows (Attempt tried) number is (Concluded Deleted error) (inl none) message home attempt old author before moment same = absurd none
+closing_follows (Attempt tried) number is (Concluded Deleted error) (inr other) message home attempt old author before moment same = absurd (cc)
+closing_follows (Failed error) number is outcome closing message home attempt old author before moment same = absurd (cc)
+closing_follows (Fate final error) number is outcome closing message home attempt old author before moment same = absurd (cc)
+closing_follows Told number is outcome closing message home attempt old author before moment same = absurd (cc)
 
 closing_error : (kind : Kind) (number : ℕ) → kind ≡ Attempt number → (outcome : Outcome) → IsClosing outcome → HasError kind (decree_of outcome)
 closing_error (Taken of) number is outcome closing = absurd (cc)
@@ -81,20 +82,23 @@ closing_error (Attempt tried) number is (Concluded Deleted error) (inl none) = a
 closing_error (Attempt tried) number is (Concluded Deleted error) (inr other) = absurd (cc)
 closing_error (Failed error) number is outcome closing = absurd (cc)
 closing_error (Fate final error) number is outcome closing = absurd (cc)
+closing_error Told number is outcome closing = absurd (cc)
 
-failure_follows : (kind : Kind) (number error : ℕ) → kind ≡ Attempt number → (message : Submission) (attempt : ℕ) (old author : Author) (before moment : ℕ) →
-    author.node ≡ old.node → old.incarnation ≤ author.incarnation → MayFollow message attempt old before kind author moment (Failed error)
-failure_follows (Taken of) number error is message attempt old author before moment nodes incarnations = absurd (cc)
-failure_follows (Attempt tried) number error is message attempt old author before moment nodes incarnations =
+failure_follows : (kind : Kind) (number error : ℕ) → kind ≡ Attempt number → (message : Submission) (home attempt : ℕ) (old author : Author) (before moment : ℕ) →
+    author.node ≡ old.node → old.incarnation ≤ author.incarnation → MayFollow message home attempt old before kind author moment (Failed error)
+failure_follows (Taken of) number error is message home attempt old author before moment nodes incarnations = absurd (cc)
+failure_follows (Attempt tried) number error is message home attempt old author before moment nodes incarnations =
     record { node = nodes; incarnation = incarnations }
-failure_follows (Failed cause) number error is message attempt old author before moment nodes incarnations = absurd (cc)
-failure_follows (Fate final cause) number error is message attempt old author before moment nodes incarnations = absurd (cc)
+failure_follows (Failed cause) number error is message home attempt old author before moment nodes incarnations = absurd (cc)
+failure_follows (Fate final cause) number error is message home attempt old author before moment nodes incarnations = absurd (cc)
+failure_follows Told number error is message home attempt old author before moment nodes incarnations = absurd (cc)
 
 failure_error : (kind : Kind) (error : ℕ) → HasError kind (Failed error)
 failure_error (Taken of) error = tt
 failure_error (Attempt tried) error = tt
 failure_error (Failed cause) error = tt
 failure_error (Fate final cause) error = tt
+failure_error Told error = tt
 
 -- what the node needs to close an attempt, or to call it lost
 allows_closed : (a : Actor) (slot : Slot) (taken : Submission) (attempted : Author) (kind : Kind) (number : ℕ) → kind ≡ Attempt number → (next : Kind) →
@@ -103,6 +107,7 @@ allows_closed a slot taken attempted (Taken of) number is next closed = absurd (
 allows_closed a slot taken attempted (Attempt tried) number is next closed = inl closed
 allows_closed a slot taken attempted (Failed error) number is next closed = absurd (cc)
 allows_closed a slot taken attempted (Fate final error) number is next closed = absurd (cc)
+allows_closed a slot taken attempted Told number is next closed = absurd (cc)
 
 allows_lost : (a : Actor) (slot : Slot) (taken : Submission) (attempted : Author) (kind : Kind) (number : ℕ) → kind ≡ Attempt number →
     attempted.incarnation < a.incarnation →
@@ -111,18 +116,21 @@ allows_lost a slot taken attempted (Taken of) number is before = absurd (cc)
 allows_lost a slot taken attempted (Attempt tried) number is before = inr (record { incarnation = before; kind = refl })
 allows_lost a slot taken attempted (Failed error) number is before = absurd (cc)
 allows_lost a slot taken attempted (Fate final error) number is before = absurd (cc)
+allows_lost a slot taken attempted Told number is before = absurd (cc)
 
 -- ---- what may follow a message that waits
 
 deleted_follows : (kind : Kind) → ((message : Submission) × (kind ≡ Taken message)) ⊎ ((error : ℕ) × (kind ≡ Failed error)) →
-    (message : Submission) (attempt : ℕ) (old author : Author) (before moment : ℕ) →
-    MayFollow message attempt old before kind author moment (Fate Deleted 0)
-deleted_follows (Taken of) idle message attempt old author before moment = tt
-deleted_follows (Attempt tried) (inl taken) message attempt old author before moment = let same = taken.1 in absurd (cc)
-deleted_follows (Attempt tried) (inr failed) message attempt old author before moment = let same = failed.1 in absurd (cc)
-deleted_follows (Failed cause) idle message attempt old author before moment = tt
-deleted_follows (Fate final cause) (inl taken) message attempt old author before moment = let same = taken.1 in absurd (cc)
-deleted_follows (Fate final cause) (inr failed) message attempt old author before moment = let same = failed.1 in absurd (cc)
+    (message : Submission) (home attempt : ℕ) (old author : Author) (before moment : ℕ) →
+    MayFollow message home attempt old before kind author moment (Fate Deleted 0)
+deleted_follows (Taken of) idle message home attempt old author before moment = tt
+deleted_follows (Attempt tried) (inl taken) message home attempt old author before moment = let same = taken.1 in absurd (cc)
+deleted_follows (Attempt tried) (inr failed) message home attempt old author before moment = let same = failed.1 in absurd (cc)
+deleted_follows (Failed cause) idle message home attempt old author before moment = tt
+deleted_follows (Fate final cause) (inl taken) message home attempt old author before moment = let same = taken.1 in absurd (cc)
+deleted_follows (Fate final cause) (inr failed) message home attempt old author before moment = let same = failed.1 in absurd (cc)
+deleted_follows Told (inl failed) message home attempt old author before moment = let same = failed.1 in absurd (cc)
+deleted_follows Told (inr failed) message home attempt old author before moment = let same = failed.1 in absurd (cc)
 
 deleted_allowed : (a : Actor) (slot : Slot) (taken : Submission) (attempted : Author) (kind : Kind) →
     ((message : Submission) × (kind ≡ Taken message)) ⊎ ((error : ℕ) × (kind ≡ Failed error)) →
@@ -132,27 +140,31 @@ deleted_allowed a slot taken attempted (Attempt tried) (inl is) cancelled = let 
 deleted_allowed a slot taken attempted (Attempt tried) (inr is) cancelled = let same = is.1 in absurd (cc)
 deleted_allowed a slot taken attempted (Failed cause) idle cancelled = cancelled
 deleted_allowed a slot taken attempted (Fate final cause) idle cancelled = cancelled
+deleted_allowed a slot taken attempted Told idle cancelled = cancelled
 
 deleted_error : (kind : Kind) → HasError kind (Fate Deleted 0)
 deleted_error (Taken of) = refl
 deleted_error (Attempt tried) = refl
 deleted_error (Failed cause) = refl
 deleted_error (Fate final cause) = refl
+deleted_error Told = refl
 
 expired_allowed :
-    (a : Actor) (slot : Slot) (taken : Submission) (attempted : Author) (kind : Kind) (message : Submission) (attempt : ℕ) (old author : Author)
+    (a : Actor) (slot : Slot) (taken : Submission) (attempted : Author) (kind : Kind) (message : Submission) (home attempt : ℕ) (old author : Author)
     (before moment : ℕ) →
-    MayFollow message attempt old before kind author moment (Fate Expired 0) → Allows a slot taken attempted kind (Fate Expired 0)
-expired_allowed a slot taken attempted (Taken of) message attempt old author before moment may = tt
-expired_allowed a slot taken attempted (Attempt tried) message attempt old author before moment may = absurd may
-expired_allowed a slot taken attempted (Failed cause) message attempt old author before moment may = tt
-expired_allowed a slot taken attempted (Fate final cause) message attempt old author before moment may = tt
+    MayFollow message home attempt old before kind author moment (Fate Expired 0) → Allows a slot taken attempted kind (Fate Expired 0)
+expired_allowed a slot taken attempted (Taken of) message home attempt old author before moment may = tt
+expired_allowed a slot taken attempted (Attempt tried) message home attempt old author before moment may = absurd may
+expired_allowed a slot taken attempted (Failed cause) message home attempt old author before moment may = tt
+expired_allowed a slot taken attempted (Fate final cause) message home attempt old author before moment may = tt
+expired_allowed a slot taken attempted Told message home attempt old author before moment may = tt
 
 expired_error : (kind : Kind) → HasError kind (Fate Expired 0)
 expired_error (Taken of) = refl
 expired_error (Attempt tried) = refl
 expired_error (Failed cause) = refl
 expired_error (Fate final cause) = refl
+expired_error Told = refl
 
 undelivered_allowed : (a : Actor) (slot : Slot) (taken : Submission) (attempted : Author) (kind : Kind) (error : ℕ) → kind ≡ Failed error →
     Allows a slot taken attempted kind (Fate Undeliverable error)
@@ -160,27 +172,31 @@ undelivered_allowed a slot taken attempted (Taken of) error is = absurd (cc)
 undelivered_allowed a slot taken attempted (Attempt tried) error is = absurd (cc)
 undelivered_allowed a slot taken attempted (Failed cause) error is = tt
 undelivered_allowed a slot taken attempted (Fate final cause) error is = absurd (cc)
+undelivered_allowed a slot taken attempted Told error is = absurd (cc)
 
 undelivered_error : (kind : Kind) (error : ℕ) → kind ≡ Failed error → HasError kind (Fate Undeliverable error)
 undelivered_error (Taken of) error is = absurd (cc)
 undelivered_error (Attempt tried) error is = absurd (cc)
 undelivered_error (Failed cause) error is = let same : cause ≡ error = cc in sym same
 undelivered_error (Fate final cause) error is = absurd (cc)
+undelivered_error Told error is = absurd (cc)
 
 tried_allowed :
-    (a : Actor) (slot : Slot) (taken : Submission) (attempted : Author) (kind : Kind) (number : ℕ) (message : Submission) (attempt : ℕ) (old author : Author)
+    (a : Actor) (slot : Slot) (taken : Submission) (attempted : Author) (kind : Kind) (number : ℕ) (message : Submission) (home attempt : ℕ) (old author : Author)
     (before moment : ℕ) →
-    MayFollow message attempt old before kind author moment (Attempt number) → Allows a slot taken attempted kind (Attempt number)
-tried_allowed a slot taken attempted (Taken of) number message attempt old author before moment may = tt
-tried_allowed a slot taken attempted (Attempt tried) number message attempt old author before moment may = absurd may
-tried_allowed a slot taken attempted (Failed cause) number message attempt old author before moment may = tt
-tried_allowed a slot taken attempted (Fate final cause) number message attempt old author before moment may = tt
+    MayFollow message home attempt old before kind author moment (Attempt number) → Allows a slot taken attempted kind (Attempt number)
+tried_allowed a slot taken attempted (Taken of) number message home attempt old author before moment may = tt
+tried_allowed a slot taken attempted (Attempt tried) number message home attempt old author before moment may = absurd may
+tried_allowed a slot taken attempted (Failed cause) number message home attempt old author before moment may = tt
+tried_allowed a slot taken attempted (Fate final cause) number message home attempt old author before moment may = tt
+tried_allowed a slot taken attempted Told number message home attempt old author before moment may = tt
 
 tried_error : (kind : Kind) (number : ℕ) → HasError kind (Attempt number)
 tried_error (Taken of) number = tt
 tried_error (Attempt tried) number = tt
 tried_error (Failed cause) number = tt
 tried_error (Fate final cause) number = tt
+tried_error Told number = tt
 
 -- ---- the next chain
 
@@ -194,7 +210,7 @@ module _ (nodes node : ℕ) (a : Actor) (coherent : IsCoherent node a) (records 
   Next b chain = IsNext (IsLearned nodes b.received) node b id chain
 
   next_of : (place : ℕ) (chain : List Decree) (kind : Kind) (g : GoesFurther nodes node a id place chain kind) →
-      MayFollow g.taken (attempts_in (g.newest ∷ g.older)) g.newest.author g.newest.moment g.newest.kind (next_decree node a g.newest kind).author
+      MayFollow g.taken (home_in (g.newest ∷ g.older)) (attempts_in (g.newest ∷ g.older)) g.newest.author g.newest.moment g.newest.kind (next_decree node a g.newest kind).author
       (next_decree node a g.newest kind).moment kind →
       Allows a (slot_of id (g.newest ∷ g.older)) g.taken g.newest.author g.newest.kind kind → HasError g.newest.kind kind → Next a chain
   next_of place chain kind g may allowed error = record {
