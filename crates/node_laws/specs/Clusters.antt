@@ -1,7 +1,7 @@
 -- A cluster of nodes by what they keep, and the packets between them.
 use Rattle.std.specs.Prelude.{◌≡◌, ◌⊎◌, ℕ, List, [], ◌∷◌, ◌++◌, map, reverse, Some}
 use Rattle.mc_model.specs.message.Decree.{Attempt, Decree, Delivered, Fate, Final}
-use Rattle.mc_model.specs.message.Chain.{final_in}
+use Rattle.mc_model.specs.message.Chain.{final_in, untold}
 use Rattle.mc_model.specs.synod.Lists.{In}
 use Rattle.mc_model.specs.synod.Packet.{Packet, Slot, slot_of}
 use Rattle.mc_model.specs.node.Alone.{opened_new as node_new, reached_alone}
@@ -149,7 +149,7 @@ pub record IsDeliveredBy (id : ℕ) (chain : List Decree) (inputs : List NodeInp
   pub attempt : Decree
   pub older : List Decree
   pub number : ℕ
-  pub chain_is : chain ≡ fate ∷ attempt ∷ older
+  pub chain_is : untold chain ≡ fate ∷ attempt ∷ older
   pub attempted : attempt.kind ≡ Attempt number
   pub delivered : fate.kind ≡ Fate Delivered 0
   pub author : fate.author ≡ attempt.author

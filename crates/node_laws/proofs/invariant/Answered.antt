@@ -1,9 +1,9 @@
 -- What a request is answered by what is kept is what it is answered by what the actor knows and was told.
-use Rattle.std.proofs.Common.{◌≡◌, ◌↔◌, ℕ, pred, Bool, true, false, List, [], ◌∷◌, length, Option, Some, None, refl, sym, ap, subst, ◌∙◌, inl, inr, arith}
+use Rattle.std.proofs.Common.{◌≡◌, ◌↔◌, ℕ, pred, Bool, true, false, List, [], ◌∷◌, length, Option, Some, None, refl, sym, ap, subst, subst₂, ◌∙◌, inl, inr, arith}
 use Rattle.std.specs.Prelude.{if◌then◌else◌}
 use Rattle.std.proofs.lemmas.Bool.{and_from, and_parts, true≢false}
 use Rattle.mc_model.specs.message.Submission.{Submission}
-use Rattle.mc_model.specs.message.Decree.{Attempt, Decree, Deleted, Delivered, Expired, Failed, Fate, Kind, Rejected, Taken, Undeliverable}
+use Rattle.mc_model.specs.message.Decree.{Attempt, Decree, Deleted, Delivered, Expired, Failed, Fate, Told, Final, Kind, Rejected, Taken, Undeliverable}
 use Rattle.mc_model.specs.message.Chain.{final_by, final_in, taken_in}
 use Rattle.mc_model.specs.synod.Lists.{In}
 use Rattle.mc_model.specs.synod.Packet.{Name, Packet, Tell, TopVote}
@@ -206,14 +206,15 @@ module _ (nodes node : ℕ) (a : Actor) (h : Held) (is : IsHeld a.received (name
 
     -- it matches, and the message is idle: nothing fits
     cancel_waits : (newest : Decree) (older : List Decree) (taken : Submission) → Knows nodes a.received id (newest ∷ older) →
-        taken_in (newest ∷ older) ≡ Some taken → IsMatch taken account source destination →
-        (final_by newest.kind ≡ Some Deleted → ⊥) → (KeepsMessage newest.kind → ⊥) → (answer : Answer) → CancelFits answer → ⊥
+        taken_in (newest ∷ older) ≡ Some taken → IsMatch taken account source destination → (final_in (newest ∷ older) ≡ Some Deleted → ⊥) →
+        (KeepsMessage (final_in (newest ∷ older)) newest.kind → ⊥) → (answer : Answer) → CancelFits answer → ⊥
     cancel_waits newest older taken knows message matched deleted keeps (Removed other) fits =
         deleted (ap final_in (sym (one_known (newest ∷ older) other knows fits.known)) ∙ fits.deleted)
     cancel_waits newest older taken knows message matched deleted keeps (Kept other) fits =
-        let same : newest ∷ older ≡ fits.newest ∷ fits.older = sym (one_known (newest ∷ older) other knows fits.known) ∙ fits.chain_is in
+        let known : other ≡ newest ∷ older = one_known (newest ∷ older) other knows fits.known in
+        let same : newest ∷ older ≡ fits.newest ∷ fits.older = sym known ∙ fits.chain_is in
         let first : newest ≡ fits.newest = cc in
-        keeps (subst (λ (d : Decree). KeepsMessage d.kind) (sym first) fits.kept)
+        keeps (subst₂ (λ (c : List Decree) (d : Decree). KeepsMessage (final_in c) d.kind) known (sym first) fits.kept)
     cancel_waits newest older taken knows message matched deleted keeps (NotMatched other) fits =
         fits.other (subst (λ (s : Submission). IsMatch s account source destination)
         (sym (one_taken (newest ∷ older) other taken fits.taken (one_known (newest ∷ older) other knows fits.known) message fits.message)) matched)
@@ -222,11 +223,12 @@ module _ (nodes node : ℕ) (a : Actor) (h : Held) (is : IsHeld a.received (name
 
     cancel_matched : (newest : Decree) (older : List Decree) (taken : Submission) → Knows nodes a.received id (newest ∷ older) → w.settled ≡ true →
         taken_in (newest ∷ older) ≡ Some taken → IsMatch taken account source destination →
-        (kind : Kind) → newest.kind ≡ kind → AnswerIs (cancel_answer kind (newest ∷ older)) CancelFits
-    cancel_matched newest older taken knows settled message matched kind is = by_kind kind is
+        AnswerIs (cancel_answer_of (newest ∷ older)) CancelFits
+    cancel_matched newest older taken knows settled message matched = by_state (final_in (newest ∷ older)) newest.kind refl refl
       where
-        keeps : KeepsMessage newest.kind → CancelFits (Kept (newest ∷ older))
-        keeps kept = record {
+        keeps : (state : Option Final) (kind : Kind) → final_in (newest ∷ older) ≡ state → newest.kind ≡ kind → KeepsMessage state kind →
+            CancelFits (Kept (newest ∷ older))
+        keeps state kind ends is kept = record {
           taken = taken;
           newest = newest;
           older = older;
@@ -235,29 +237,33 @@ module _ (nodes node : ℕ) (a : Actor) (h : Held) (is : IsHeld a.received (name
           message = message;
           matched = matched;
           chain_is = refl;
-          kept = kept;
+          kept = subst₂ KeepsMessage (sym ends) (sym is) kept;
         }
 
-        waits : (kind : Kind) → newest.kind ≡ kind → (final_by kind ≡ Some Deleted → ⊥) → (KeepsMessage kind → ⊥) → (answer : Answer) → CancelFits answer → ⊥
-        waits kind is deleted kept =
-            cancel_waits newest older taken knows message matched (λ d. deleted (ap final_by (sym is) ∙ d)) (λ k. kept (subst KeepsMessage is k))
+        waits : (kind : Kind) → final_in (newest ∷ older) ≡ None → newest.kind ≡ kind → (KeepsMessage None kind → ⊥) → (answer : Answer) →
+            CancelFits answer → ⊥
+        waits kind ends is kept = cancel_waits newest older taken knows message matched
+            (λ d. let both : None ≡ Some Deleted = sym ends ∙ d in absurd (cc)) (λ k. kept (subst₂ KeepsMessage ends is k))
 
-        by_kind : (kind : Kind) → newest.kind ≡ kind → AnswerIs (cancel_answer kind (newest ∷ older)) CancelFits
-        by_kind (Taken of) is = waits (Taken of) is (λ d. absurd (cc)) (λ none. none)
-        by_kind (Attempt number) is = keeps (subst KeepsMessage (sym is) tt)
-        by_kind (Failed error) is = waits (Failed error) is (λ d. absurd (cc)) (λ none. none)
-        by_kind (Fate Delivered error) is = keeps (subst KeepsMessage (sym is) tt)
-        by_kind (Fate Expired error) is = keeps (subst KeepsMessage (sym is) tt)
-        by_kind (Fate Deleted error) is = record {
+        by_state : (state : Option Final) (kind : Kind) → final_in (newest ∷ older) ≡ state → newest.kind ≡ kind →
+            AnswerIs (cancel_answer state kind (newest ∷ older)) CancelFits
+        by_state None (Taken of) ends is = waits (Taken of) ends is (λ none. none)
+        by_state None (Attempt number) ends is = keeps None (Attempt number) ends is tt
+        by_state None (Failed error) ends is = waits (Failed error) ends is (λ none. none)
+        by_state None (Fate final error) ends is = waits (Fate final error) ends is (λ none. none)
+        by_state None Told ends is = waits Told ends is (λ none. none)
+        by_state (Some Delivered) kind ends is = keeps (Some Delivered) kind ends is tt
+        by_state (Some Expired) kind ends is = keeps (Some Expired) kind ends is tt
+        by_state (Some Deleted) kind ends is = record {
           taken = taken;
           known = knows;
           settled = settled;
           message = message;
           matched = matched;
-          deleted = ap final_by is;
+          deleted = ends;
         }
-        by_kind (Fate Undeliverable error) is = keeps (subst KeepsMessage (sym is) tt)
-        by_kind (Fate Rejected error) is = keeps (subst KeepsMessage (sym is) tt)
+        by_state (Some Undeliverable) kind ends is = keeps (Some Undeliverable) kind ends is tt
+        by_state (Some Rejected) kind ends is = keeps (Some Rejected) kind ends is tt
 
     cancel_taken : (chain : List Decree) → Knows nodes a.received id chain → w.settled ≡ true → (taken : Option Submission) → taken_in chain ≡ taken →
         AnswerIs (cancel_decided account source destination chain taken) CancelFits
@@ -267,8 +273,7 @@ module _ (nodes node : ℕ) (a : Actor) (h : Held) (is : IsHeld a.received (name
       where
         by_match : (matched : Bool) → is_match taken account source destination ≡ matched →
             AnswerIs (if matched then cancel_answer_of (newest ∷ older) else Some (NotMatched (newest ∷ older))) CancelFits
-        by_match true matched = cancel_matched newest older taken knows settled message
-            ((match_decides taken account source destination).0 matched) newest.kind refl
+        by_match true matched = cancel_matched newest older taken knows settled message ((match_decides taken account source destination).0 matched)
         by_match false other = record {
           taken = taken;
           known = knows;

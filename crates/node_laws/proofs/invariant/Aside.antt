@@ -2,7 +2,7 @@
 -- Propose or a question.
 use Rattle.std.proofs.Common.{refl, ℕ, List, [], ◌∷◌, Option, Some, None, ap, inl, inr}
 use Rattle.mc_model.specs.message.Submission.{Submission}
-use Rattle.mc_model.specs.message.Decree.{Attempt, Author, Decree, Deleted, Failed, Fate, Kind, Taken}
+use Rattle.mc_model.specs.message.Decree.{Attempt, Author, Decree, Deleted, Failed, Fate, Told, Kind, Taken}
 use Rattle.mc_model.specs.synod.Lists.{In}
 use Rattle.mc_model.specs.synod.OneSlot.{Vote}
 use Rattle.mc_model.specs.synod.Packet.{Name, Packet, Promise, Refused, Slot, Tell, TopVote, Voted, slot_at}
@@ -109,6 +109,8 @@ module _ (nodes node : ℕ) (a : Actor) (packet : Packet) (aside : IsAside packe
   allows_still slot taken attempted (Failed cause) (Fate Deleted error) c =
       record { waiting = c.waiting; waits = c.waits; settled = c.settled; cancels = c.cancels }
   allows_still slot taken attempted (Fate final last) (Fate Deleted error) c =
+      record { waiting = c.waiting; waits = c.waits; settled = c.settled; cancels = c.cancels }
+  allows_still slot taken attempted Told (Fate Deleted error) c =
       record { waiting = c.waiting; waits = c.waits; settled = c.settled; cancels = c.cancels }
   allows_still slot taken attempted before next allowed = tt
 

@@ -2,7 +2,7 @@
 use Rattle.std.proofs.Common.{◌≡◌, ℕ, Bool, true, false, List, [], ◌∷◌, length, Option, Some, None, refl, sym, ap, subst, ◌∙◌, eqb-true}
 use Rattle.std.specs.Prelude.{◌==◌, is_some, not, if◌then◌else◌}
 use Rattle.std.proofs.lemmas.Bool.{eqb-false, true≢false}
-use Rattle.mc_model.specs.message.Decree.{Attempt, Decree, Failed, Fate, Kind, Taken}
+use Rattle.mc_model.specs.message.Decree.{Attempt, Decree, Failed, Fate, Told, Kind, Taken}
 use Rattle.mc_model.specs.synod.Lists.{In}
 use Rattle.mc_model.specs.synod.Packet.{slot_at, slot_of}
 use Rattle.mc_model.specs.node.Actor.{Actor}
@@ -111,6 +111,7 @@ module _ (setup : Setup) (k : Kept) (a : Actor) (incarnation : k.incarnation ≡
         by_kind (Attempt number) is = attempt_judged number is
         by_kind (Failed error) is = none_open (λ number same. let both : Failed error ≡ Attempt number = sym is ∙ same in absurd (cc))
         by_kind (Fate final error) is = none_open (λ number same. let both : Fate final error ≡ Attempt number = sym is ∙ same in absurd (cc))
+        by_kind Told is = none_open (λ number same. let both : Told ≡ Attempt number = sym is ∙ same in absurd (cc))
 
   known_judged : (known : Option (List Decree)) → m.known ≡ known → Judged (known_refusal setup k m known)
   known_judged None is = λ newest older ends.

@@ -6,8 +6,8 @@ use Rattle.std.specs.Option.{is_none}
 use Rattle.std.proofs.lemmas.Bool.{eqb-false, eqb-true}
 use Rattle.std.proofs.lemmas.List.{map-append, reverse-append}
 use Rattle.mc_model.specs.message.Submission.{Submission}
-use Rattle.mc_model.specs.message.Decree.{Attempt, Decree, Failed, Fate, Kind, Taken}
-use Rattle.mc_model.specs.message.Chain.{taken_in}
+use Rattle.mc_model.specs.message.Decree.{Attempt, Decree, Failed, Fate, Told, Final, Kind, Taken}
+use Rattle.mc_model.specs.message.Chain.{final_by, final_in, taken_in}
 use Rattle.mc_model.specs.synod.Acceptor.{Records}
 use Rattle.mc_model.specs.synod.Lists.{In}
 use Rattle.mc_model.specs.synod.Packet.{Slot, slot_of}
@@ -25,7 +25,7 @@ use Rattle.mc_model.specs.node.Setup.{Setup}
 use Rattle.mc_parts.proofs.Membership.{in_either, in_filter}
 use Rattle.node_model.specs.Kept.{Held, Kept, message_at}
 use Rattle.node_model.specs.Message.{Round}
-use Rattle.node_model.specs.Answers.{answer_by, answer_to, cancel_answer, cancel_decided, replied}
+use Rattle.node_model.specs.Answers.{answer_by, answer_to, cancel_answer, cancel_answer_of, cancel_decided, replied}
 use Rattle.node_model.specs.Requests.{Ascend, id_of, is_settled, ticket_of}
 use Rattle.node_laws.specs.Stands.{Agrees, IsBehind, IsRound, IsRoundOf as IsKeptRound}
 use Rattle.node_laws.specs.Steps.{IsAtWork}
@@ -290,11 +290,12 @@ fits_any nodes node a w request NotOwner is fits = subst (λ (r : Request). Fits
 fits_any nodes node a w request (NotMatched chain) is fits = subst (λ (r : Request). FitsRequest nodes node a w r (NotMatched chain)) is fits
 fits_any nodes node a w request Unknown is fits = subst (λ (r : Request). FitsRequest nodes node a w r Unknown) is fits
 
-idle_answer : (kind : Kind) (chain : List Decree) → IsIdleKind kind → cancel_answer kind chain ≡ None
-idle_answer (Taken message) chain idle = refl
-idle_answer (Attempt number) chain idle = absurd idle
-idle_answer (Failed error) chain idle = refl
-idle_answer (Fate final error) chain idle = absurd idle
+idle_answer : (kind : Kind) (older : Option Final) (chain : List Decree) → IsIdleKind kind → cancel_answer (final_by kind older) kind chain ≡ None
+idle_answer (Taken message) older chain idle = refl
+idle_answer (Attempt number) older chain idle = absurd idle
+idle_answer (Failed error) older chain idle = refl
+idle_answer (Fate final error) older chain idle = absurd idle
+idle_answer Told older chain idle = absurd idle
 
 -- a cancel_sm that is settled waits while the message is idle
 cancel_open : (id : ℕ) (taken : Submission) (newest : Decree) (older : List Decree) (reached settled : Bool) (request : Request) → settled ≡ true →
@@ -305,9 +306,9 @@ cancel_open id taken newest older reached settled (Query other account source) i
 cancel_open id taken newest older reached settled (Cancel other account source destination) is taking cancels idle =
     ap (λ (b : Bool). if b then cancel_decided account source destination (newest ∷ older) (taken_in (newest ∷ older)) else None) is
     ∙ ap (cancel_decided account source destination (newest ∷ older)) taking
-    ∙ ap (λ (b : Bool). if b then cancel_answer newest.kind (newest ∷ older) else Some (NotMatched (newest ∷ older)))
+    ∙ ap (λ (b : Bool). if b then cancel_answer_of (newest ∷ older) else Some (NotMatched (newest ∷ older)))
     ((match_decides taken account source destination).1 cancels.1)
-    ∙ idle_answer newest.kind (newest ∷ older) idle
+    ∙ idle_answer newest.kind (final_in older) (newest ∷ older) idle
 
 pub cancels_of : (request : Request) (id : ℕ) (taken : Submission) → Cancels request id taken → id_in request ≡ id
 cancels_of (Submit other message) id taken cancels = absurd cancels

@@ -2,7 +2,7 @@
 use Rattle.std.proofs.Common.{◌≡◌, ◌⊎◌, ℕ, ◌<◌, true, List, [], ◌∷◌, map, Option, Some, None, refl, inl, inr, arith}
 use Rattle.std.specs.List.Sorted.{IsStrictlyIncreasing}
 use Rattle.mc_model.specs.message.Submission.{Submission}
-use Rattle.mc_model.specs.message.Decree.{Attempt, Author, Decree, Deleted, Failed, Fate, Kind, Taken}
+use Rattle.mc_model.specs.message.Decree.{Attempt, Author, Decree, Deleted, Failed, Fate, Told, Kind, Taken}
 use Rattle.mc_model.specs.message.Chain.{taken_in}
 use Rattle.mc_model.specs.message.Neighbours.{MayFollow}
 use Rattle.mc_model.specs.synod.Lists.{In}
@@ -25,6 +25,7 @@ IsIdleKind (Taken message) = Unit {0}
 IsIdleKind (Attempt number) = ⊥
 IsIdleKind (Failed error) = Unit {0}
 IsIdleKind (Fate final error) = ⊥
+IsIdleKind Told = ⊥
 
 module _ (setup : Setup) (s : Node) (ws : List Waiting) where
   abbrev pub waits : Node
@@ -38,20 +39,21 @@ module _ (setup : Setup) (s : Node) (ws : List Waiting) where
 
   -- ---- a chain of the node's own
 
-  allows_waits : (slot : Slot) (taken message : Submission) (attempted author : Author) (attempt earlier moment : ℕ) (before next : Kind) →
+  allows_waits : (slot : Slot) (taken message : Submission) (attempted author : Author) (home attempt earlier moment : ℕ) (before next : Kind) →
       ((w : Waiting) → In w s.actor.waiting → w.settled ≡ true → Cancels w.request slot.id taken → IsIdleKind before → In w ws) →
-      MayFollow message attempt attempted earlier before author moment next →
+      MayFollow message home attempt attempted earlier before author moment next →
       Allows s.actor slot taken attempted before next → Allows waits.actor slot taken attempted before next
-  allows_waits slot taken message attempted author attempt earlier moment (Attempt number) next stays may (inl closed) =
+  allows_waits slot taken message attempted author home attempt earlier moment (Attempt number) next stays may (inl closed) =
       inl (record { outcome = closed.outcome; incarnation = closed.incarnation; closed = closed.closed; kind = closed.kind })
-  allows_waits slot taken message attempted author attempt earlier moment (Attempt number) next stays may (inr lost) =
+  allows_waits slot taken message attempted author home attempt earlier moment (Attempt number) next stays may (inr lost) =
       inr (record { incarnation = lost.incarnation; kind = lost.kind })
-  allows_waits slot taken message attempted author attempt earlier moment (Taken of) (Fate Deleted error) stays may c =
+  allows_waits slot taken message attempted author home attempt earlier moment (Taken of) (Fate Deleted error) stays may c =
       record { waiting = c.waiting; waits = stays c.waiting c.waits c.settled c.cancels tt; settled = c.settled; cancels = c.cancels }
-  allows_waits slot taken message attempted author attempt earlier moment (Failed cause) (Fate Deleted error) stays may c =
+  allows_waits slot taken message attempted author home attempt earlier moment (Failed cause) (Fate Deleted error) stays may c =
       record { waiting = c.waiting; waits = stays c.waiting c.waits c.settled c.cancels tt; settled = c.settled; cancels = c.cancels }
-  allows_waits slot taken message attempted author attempt earlier moment (Fate final last) (Fate Deleted error) stays may c = absurd may
-  allows_waits slot taken message attempted author attempt earlier moment before next stays may allowed = tt
+  allows_waits slot taken message attempted author home attempt earlier moment (Fate final last) (Fate Deleted error) stays may c = absurd may
+  allows_waits slot taken message attempted author home attempt earlier moment Told (Fate Deleted error) stays may c = absurd may
+  allows_waits slot taken message attempted author home attempt earlier moment before next stays may allowed = tt
 
   own_waits : (id : ℕ) (chain : List Decree) → KeepsGround id chain → IsOwn (IsLearned setup.nodes s.actor.received) setup.node s.actor id chain →
       IsOwn (IsLearned setup.nodes waits.actor.received) setup.node waits.actor id chain
@@ -74,7 +76,7 @@ module _ (setup : Setup) (s : Node) (ws : List Waiting) where
     moment = further.moment;
     message = further.message;
     may = further.may;
-    allowed = allows_waits _ further.taken further.taken further.newest.author further.next.author _
+    allowed = allows_waits _ further.taken further.taken further.newest.author further.next.author _ _
         further.newest.moment further.next.moment further.newest.kind further.next.kind
         (λ w waits settled cancels idle.
         ground.cancelled w further.next further.newest further.older further.taken further.chain_is waits settled further.message cancels idle)

@@ -7,7 +7,7 @@ use Rattle.std.proofs.lemmas.Bool.{true≢false}
 use Rattle.mc_model.specs.message.Submission.{Submission}
 use Rattle.mc_model.specs.message.Decree.{Attempt, Author, Decree, Expired, Failed, Fate, Told, Kind, Taken}
 use Rattle.mc_model.specs.message.Neighbours.{MayFollow}
-use Rattle.mc_model.specs.message.Chain.{attempts_in, taken_in}
+use Rattle.mc_model.specs.message.Chain.{attempts_in, home_in, taken_in}
 use Rattle.mc_model.specs.synod.Lists.{In}
 use Rattle.mc_model.specs.synod.Packet.{Slot}
 use Rattle.mc_model.specs.synod.Acceptor.{Records}
@@ -170,6 +170,7 @@ module _ (setup : Setup) (a : Actor) (records : Records) (k : Kept) (up : List �
           none_waits Delete place chain late fits = busy fits.further.newest.kind own.0.0 (kind_at place chain _ fits.further) fits.idle
           none_waits Expire place chain late fits =
               never_expires fits.further.newest.kind own.0.0 (kind_at place chain _ fits.further) fits.further.taken
+              (home_in (fits.further.newest ∷ fits.further.older))
               (attempts_in (fits.further.newest ∷ fits.further.older))
               fits.further.newest.author
               (next_decree setup.node a fits.further.newest (Fate Expired 0)).author
@@ -181,6 +182,7 @@ module _ (setup : Setup) (a : Actor) (records : Records) (k : Kept) (up : List �
               absurd (cc)
           none_waits Try place chain late fits =
               never_tried fits.due.further.newest.kind own.0.0 (kind_at place chain _ fits.due.further) fits.number fits.due.further.taken
+              (home_in (fits.due.further.newest ∷ fits.due.further.older))
               (attempts_in (fits.due.further.newest ∷ fits.due.further.older))
               fits.due.further.newest.author
               (next_decree setup.node a fits.due.further.newest (Attempt fits.number)).author

@@ -382,6 +382,7 @@ module _ (setup : Setup) (a : Actor) (k : Kept) (id : ℕ) (incarnation : k.inca
         by_kind target_up (Attempt number) is = λ place chain fits. try_here place chain (Attempt number) is fits
         by_kind target_up (Failed error) is = tried_again error is target_up (again (moment_behind k newest)) refl
         by_kind target_up (Fate final error) is = λ place chain fits. try_here place chain (Fate final error) is fits
+        by_kind target_up Told is = λ place chain fits. try_here place chain Told is fits
 
         by_up : (test : Bool) → up taken.target ≡ test → Decided (if_so test (tried setup k taken newest older newest.kind)) Tries
         by_up true target_up = by_kind target_up newest.kind refl

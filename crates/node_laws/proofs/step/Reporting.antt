@@ -8,12 +8,13 @@ use Rattle.std.proofs.lemmas.Bool.Decides.{Decides-eqb, Decides-like, Decides-or
 use Rattle.mc_model.specs.message.Ids.{node_of}
 use Rattle.mc_model.specs.message.Submission.{Submission}
 use Rattle.mc_model.specs.message.Decree.{Decree, Deleted, Delivered, Expired, Final, Rejected, Undeliverable}
+use Rattle.mc_model.specs.message.Receipts.{AsksReceipt}
 use Rattle.mc_model.specs.message.Chain.{final_in, taken_in}
 use Rattle.mc_model.specs.node.Act.{Act, Reports}
 use Rattle.mc_model.specs.node.Actor.{Actor}
 use Rattle.mc_model.specs.node.Knowledge.{IsKnown, Knows}
 use Rattle.mc_model.specs.node.Outputs.{Receipt}
-use Rattle.mc_model.specs.node.Phases.{AsksReceipt, DueToReport, IsDueReport}
+use Rattle.mc_model.specs.node.Phases.{DueToReport, IsDueReport}
 use Rattle.mc_parts.proofs.Known.{knows_one}
 use Rattle.node_model.specs.Answers.{had_fate, is_asked, receipt_by, receipts_of}
 use Rattle.node_laws.proofs.step.Busy.{IsReport, report_out}

@@ -241,7 +241,7 @@ module _ (nodes node : ℕ) (a : Actor) (coherent : IsCoherent node a) (records 
       let g = fits.further in
       let closing = coherent.outcomes (slot_of id (g.newest ∷ g.older)) fits.outcome fits.closed in
       next_of place chain (decree_of fits.outcome) g
-      (closing_follows g.newest.kind fits.attempt.0.0 fits.attempt.0.1 fits.outcome closing g.taken
+      (closing_follows g.newest.kind fits.attempt.0.0 fits.attempt.0.1 fits.outcome closing g.taken _
       (attempts_in (g.newest ∷ g.older)) g.newest.author _ g.newest.moment _ (own_author g.newest fits.attempt fits.now))
       (allows_closed a (slot_of id (g.newest ∷ g.older)) g.taken g.newest.author g.newest.kind fits.attempt.0.0 fits.attempt.0.1 (decree_of fits.outcome)
       (record { outcome = fits.outcome; incarnation = fits.now; closed = fits.closed; kind = refl }))
@@ -250,7 +250,7 @@ module _ (nodes node : ℕ) (a : Actor) (coherent : IsCoherent node a) (records 
       let g = fits.further in
       let before = fits.before in
       next_of place chain (Failed older_incarnation_error) g
-      (failure_follows g.newest.kind fits.attempt.0.0 older_incarnation_error fits.attempt.0.1 g.taken
+      (failure_follows g.newest.kind fits.attempt.0.0 older_incarnation_error fits.attempt.0.1 g.taken _
       (attempts_in (g.newest ∷ g.older)) g.newest.author _ g.newest.moment _ (sym fits.attempt.1) (omega arith))
       (allows_lost a (slot_of id (g.newest ∷ g.older)) g.taken g.newest.author g.newest.kind fits.attempt.0.0 fits.attempt.0.1 fits.before)
       (failure_error g.newest.kind older_incarnation_error)
@@ -270,7 +270,7 @@ module _ (nodes node : ℕ) (a : Actor) (coherent : IsCoherent node a) (records 
         message = g.message;
         may = (
           omega arith,
-          failure_follows g.newest.kind fits.attempt.0.0 no_session_error fits.attempt.0.1 g.taken
+          failure_follows g.newest.kind fits.attempt.0.0 no_session_error fits.attempt.0.1 g.taken _
               (attempts_in (g.newest ∷ g.older)) g.newest.author _ g.newest.moment _ (sym fits.attempt.1) (let now = fits.now in omega arith),
         );
         allowed =
@@ -286,13 +286,13 @@ module _ (nodes node : ℕ) (a : Actor) (coherent : IsCoherent node a) (records 
   rule_next Delete place chain late fits =
       let g = fits.further in
       next_of place chain (Fate Deleted 0) g
-      (deleted_follows g.newest.kind fits.idle g.taken (attempts_in (g.newest ∷ g.older)) g.newest.author _ g.newest.moment _)
+      (deleted_follows g.newest.kind fits.idle g.taken _ (attempts_in (g.newest ∷ g.older)) g.newest.author _ g.newest.moment _)
       (deleted_allowed a (slot_of id (g.newest ∷ g.older)) g.taken g.newest.author g.newest.kind fits.idle fits.cancelled)
       (deleted_error g.newest.kind)
   rule_next Expire place chain late fits =
       let g = fits.further in
       next_of place chain (Fate Expired 0) g fits.may.1
-      (expired_allowed a (slot_of id (g.newest ∷ g.older)) g.taken g.newest.author g.newest.kind g.taken (attempts_in (g.newest ∷ g.older)) g.newest.author
+      (expired_allowed a (slot_of id (g.newest ∷ g.older)) g.taken g.newest.author g.newest.kind g.taken (home_in (g.newest ∷ g.older)) (attempts_in (g.newest ∷ g.older)) g.newest.author
       (next_decree node a g.newest (Fate Expired 0)).author
       g.newest.moment
       (next_decree node a g.newest (Fate Expired 0)).moment
@@ -306,7 +306,7 @@ module _ (nodes node : ℕ) (a : Actor) (coherent : IsCoherent node a) (records 
   rule_next Try place chain late fits =
       let g = fits.due.further in
       next_of place chain (Attempt fits.number) g fits.due.may.1
-      (tried_allowed a (slot_of id (g.newest ∷ g.older)) g.taken g.newest.author g.newest.kind fits.number g.taken
+      (tried_allowed a (slot_of id (g.newest ∷ g.older)) g.taken g.newest.author g.newest.kind fits.number g.taken _
       (attempts_in (g.newest ∷ g.older)) g.newest.author
       (next_decree node a g.newest (Attempt fits.number)).author
       g.newest.moment
