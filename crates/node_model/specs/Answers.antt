@@ -4,7 +4,7 @@ use Rattle.std.specs.Option.{is_none}
 use Rattle.std.specs.Str.{bytes_eq}
 use Rattle.mc_model.specs.message.Ids.{node_of}
 use Rattle.mc_model.specs.message.Submission.{Submission}
-use Rattle.mc_model.specs.message.Decree.{Attempt, Decree, Deleted, Delivered, Expired, Final, Kind, Rejected, Undeliverable}
+use Rattle.mc_model.specs.message.Decree.{Decree, Deleted, Delivered, Expired, Failed, Final, Kind, Rejected, Taken, Undeliverable}
 use Rattle.mc_model.specs.message.Chain.{final_in, taken_in}
 use Rattle.mc_model.specs.node.Actor.{Cancel, Query, Request, Submit}
 use Rattle.mc_model.specs.node.Replies.{Accepted, Answer, Kept as Keeps, NotMatched, NotOwner, Removed, Shown, Unknown}
@@ -22,8 +22,9 @@ is_match message account source destination =
 
 -- a cancel_sm is answered by the state of its message, and by the newest decree; a message that waits for an attempt is to be deleted first
 abbrev pub cancel_answer : Option Final → Kind → List Decree → Option Answer
-cancel_answer None (Attempt number) chain = Some (Keeps chain)
-cancel_answer None kind chain = None
+cancel_answer None (Taken message) chain = None
+cancel_answer None (Failed error) chain = None
+cancel_answer None kind chain = Some (Keeps chain)
 cancel_answer (Some Delivered) kind chain = Some (Keeps chain)
 cancel_answer (Some Expired) kind chain = Some (Keeps chain)
 cancel_answer (Some Deleted) kind chain = Some (Removed chain)

@@ -2,8 +2,8 @@
 use Rattle.std.proofs.Common.{◌≡◌, ℕ, Bool, true, false, List, [], ◌∷◌, length, max, Option, Some, None, refl, sym, ap, subst, ◌∙◌, inl, inr, arith}
 use Rattle.std.specs.Prelude.{◌&&◌, ◌||◌, if◌then◌else◌}
 use Rattle.std.proofs.lemmas.Bool.{and_parts, true≢false}
-use Rattle.mc_model.specs.message.Decree.{Attempt, Decree, Deleted, Delivered, Expired, Failed, Fate, Kind, Rejected, Taken, Undeliverable}
-use Rattle.mc_model.specs.message.Chain.{taken_in}
+use Rattle.mc_model.specs.message.Decree.{Attempt, Decree, Deleted, Delivered, Expired, Failed, Fate, Told, Final, Kind, Rejected, Taken, Undeliverable}
+use Rattle.mc_model.specs.message.Chain.{final_by, final_in, taken_in}
 use Rattle.mc_model.specs.message.Submission.{Submission}
 use Rattle.mc_model.specs.synod.Packet.{Ask, Name, Packet, Prepare, Tell, TopVote, slot_at}
 use Rattle.mc_model.specs.node.Actor.{Cancel, Request}
@@ -22,7 +22,7 @@ use Rattle.node_model.specs.Starts.{delete_for, is_idle}
 use Rattle.node_model.specs.Stepped.{stepped}
 use Rattle.node_model.specs.Ticks.{begun_with}
 use Rattle.table_laws.specs.Alone.{alone}
-use Rattle.table_laws.specs.Tables.{TableNode, cancelled, decree_by, is_deleted, is_meant, known_as, receipts_by, removed, reply_to}
+use Rattle.table_laws.specs.Tables.{TableNode, cancelled, decree_by, is_deleted, is_meant, known_as, receipts_by, removed, removed_in, reply_to}
 use Rattle.table_laws.specs.Tables.{requested, with_entry, chain_at, Table, extended, decreed, Entry}
 use Rattle.table_laws.specs.Resting.{IsResting, IsTaken, IsTakenIfAny}
 use Rattle.table_laws.specs.Settling.{SettlesOn}
@@ -162,20 +162,23 @@ module _ (first validity : ℕ) (k : Kept) (t : TableNode) (id : ℕ) (account s
       rw taken.taken (by_match (is_match taken.message account source destination)
       (ap (λ (o : Option Submission). is_idle newest.kind && is_meant account source destination o) (sym taken.taken) ∙ not_deleted))
     where
-      by_kind : (kind : Kind) → is_idle kind && true ≡ false → cancel_answer kind (newest ∷ older) ≡ Some (removed kind (newest ∷ older))
-      by_kind (Taken message) is = absurd (true≢false is)
-      by_kind (Attempt number) is = refl
-      by_kind (Failed error) is = absurd (true≢false is)
-      by_kind (Fate Delivered error) is = refl
-      by_kind (Fate Expired error) is = refl
-      by_kind (Fate Deleted error) is = refl
-      by_kind (Fate Undeliverable error) is = refl
-      by_kind (Fate Rejected error) is = refl
+      by_state : (state : Option Final) (kind : Kind) → is_idle kind && true ≡ false →
+          cancel_answer state kind (newest ∷ older) ≡ Some (removed state (newest ∷ older))
+      by_state None (Taken message) is = absurd (true≢false is)
+      by_state None (Attempt number) is = refl
+      by_state None (Failed error) is = absurd (true≢false is)
+      by_state None (Fate final error) is = refl
+      by_state None Told is = refl
+      by_state (Some Delivered) kind is = refl
+      by_state (Some Expired) kind is = refl
+      by_state (Some Deleted) kind is = refl
+      by_state (Some Undeliverable) kind is = refl
+      by_state (Some Rejected) kind is = refl
 
       by_match : (match : Bool) → is_idle newest.kind && match ≡ false →
-          (if match then cancel_answer newest.kind (newest ∷ older) else Some (NotMatched (newest ∷ older)))
-          ≡ Some (if match then removed newest.kind (newest ∷ older) else NotMatched (newest ∷ older))
-      by_match true is = by_kind newest.kind is
+          (if match then cancel_answer_of (newest ∷ older) else Some (NotMatched (newest ∷ older)))
+          ≡ Some (if match then removed_in (newest ∷ older) else NotMatched (newest ∷ older))
+      by_match true is = by_state (final_in (newest ∷ older)) newest.kind is
       by_match false is = refl
 
   kept : is_deleted account source destination old ≡ false → Comes t.table old
@@ -203,13 +206,14 @@ module _ (first validity : ℕ) (k : Kept) (t : TableNode) (id : ℕ) (account s
   was_meant [] taken deleted = absurd (true≢false (sym deleted))
   was_meant (newest ∷ older) taken deleted =
       let parts = and_parts (is_idle newest.kind) (is_meant account source destination (taken_in (newest ∷ older))) deleted in
-      record { taken = taken; matched = ap (is_meant account source destination) (sym taken.taken) ∙ parts.1; waits = by_kind newest.kind parts.0 }
+      record { taken = taken; matched = ap (is_meant account source destination) (sym taken.taken) ∙ parts.1; waits = by_kind newest.kind (final_in older) parts.0 }
     where
-      by_kind : (kind : Kind) → is_idle kind ≡ true → cancel_answer kind (newest ∷ older) ≡ None
-      by_kind (Taken message) is = refl
-      by_kind (Attempt number) is = absurd (true≢false (sym is))
-      by_kind (Failed error) is = refl
-      by_kind (Fate final error) is = absurd (true≢false (sym is))
+      by_kind : (kind : Kind) (below : Option Final) → is_idle kind ≡ true → cancel_answer (final_by kind below) kind (newest ∷ older) ≡ None
+      by_kind (Taken message) below is = refl
+      by_kind (Attempt number) below is = absurd (true≢false (sym is))
+      by_kind (Failed error) below is = refl
+      by_kind (Fate final error) below is = absurd (true≢false (sym is))
+      by_kind Told below is = absurd (true≢false (sym is))
 
   unanswered : (chain : List Decree) → WasMeant chain → answer_by (known_as chain) true true request ≡ None
   unanswered [] meant = let both = meant.taken.taken in absurd (cc)

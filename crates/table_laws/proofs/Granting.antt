@@ -6,7 +6,7 @@ use Rattle.std.specs.Map.{keys_of}
 use Rattle.std.specs.Option.{unwrap_or}
 use Rattle.std.specs.Ordering.{nat_cmp}
 use Rattle.std.specs.BTreeSet.{insert_key}
-use Rattle.mc_model.specs.message.Decree.{Attempt, Decree, Failed, Fate, Kind, Taken}
+use Rattle.mc_model.specs.message.Decree.{Attempt, Decree, Failed, Fate, Told, Kind, Taken}
 use Rattle.mc_model.specs.synod.Lists.{In}
 use Rattle.mc_model.specs.synod.Packet.{slot_at}
 use Rattle.mc_model.specs.node.Input.{Grant, Response}
@@ -61,6 +61,7 @@ module _ (first validity : ℕ) (k : Kept) (t : TableNode) (id : ℕ) (resting :
       by_kind (Attempt number) = rw (resting.incarnation, is.granted, is.unclosed) refl
       by_kind (Failed error) = refl
       by_kind (Fate final error) = refl
+      by_kind Told = refl
 
   -- it is refused by the table
   pub grant_refused : grant_refusal setup k id ≡ refusal_at t id

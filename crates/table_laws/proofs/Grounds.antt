@@ -3,7 +3,7 @@ use Rattle.std.proofs.Common.{◌≡◌, ℕ, pred, ◌<◌, ◌≤◌, false, L
 use Rattle.std.specs.Prelude.{◌==◌, if◌then◌else◌}
 use Rattle.std.proofs.lemmas.Bool.{ne_eqb}
 use Rattle.mc_model.specs.message.Chain.{taken_by, taken_in}
-use Rattle.mc_model.specs.message.Decree.{Attempt, Decree, Failed, Fate, Kind, Taken}
+use Rattle.mc_model.specs.message.Decree.{Attempt, Decree, Failed, Fate, Told, Kind, Taken}
 use Rattle.mc_model.specs.message.Submission.{Submission}
 use Rattle.mc_model.specs.node.FirstRule.{Close, Delete, Expire, Follow, GiveUp, Lose, Rule, Take, Try, Undeliver}
 use Rattle.mc_model.specs.node.Outcome.{Outcome, Unanswered, no_session_error}
@@ -75,3 +75,4 @@ taken_more k id decree old taken = let more = by_kind decree.kind in record { me
     by_kind (Attempt number) = (taken.message, taken.taken)
     by_kind (Failed error) = (taken.message, taken.taken)
     by_kind (Fate final error) = (taken.message, taken.taken)
+    by_kind Told = (taken.message, taken.taken)

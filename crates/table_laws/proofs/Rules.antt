@@ -3,7 +3,7 @@ use Rattle.std.proofs.Common.{◌≡◌, ℕ, Bool, true, false, List, [], ◌�
 use Rattle.std.specs.Prelude.{◌==◌, ◌&&◌, ◌+◌, ◌*◌, not, nat_le, nat_lt, if◌then◌else◌}
 use Rattle.std.specs.Option.{option_or}
 use Rattle.mc_model.specs.message.Submission.{Submission}
-use Rattle.mc_model.specs.message.Decree.{Attempt, Decree, Expired, Failed, Fate, Kind, Taken, Undeliverable, Author}
+use Rattle.mc_model.specs.message.Decree.{Attempt, Decree, Expired, Failed, Fate, Told, Kind, Taken, Undeliverable, Author}
 use Rattle.mc_model.specs.message.Chain.{attempts_in, taken_in}
 use Rattle.mc_model.specs.message.Neighbours.{most_attempts, retry_delay}
 use Rattle.mc_model.specs.synod.Packet.{TopVote}
@@ -111,6 +111,7 @@ module _ (first validity : ℕ) (k : Kept) (t0 : TableNode) (id : ℕ) (up : Lis
         (nat_lt (attempts_in (newest (Failed error) ∷ older)) most_attempts
         && (nat_lt now message.expiry && nat_le (moment + retry_delay * attempts_in (newest (Failed error) ∷ older)) now)))))
     own_as (Fate final error) = rw (undeleted (newest (Fate final error)) older, none_so Try target) tt
+    own_as Told = rw (undeleted (newest Told) older, none_so Try target) tt
 
   known_fits : (chain : List Decree) (granted : Bool) → IsAtRest k id (record { chain = chain; granted = granted }) →
       Fits chain (known_rule setup k up id (known_as chain)) (due_of t up granted chain (taken_in chain))

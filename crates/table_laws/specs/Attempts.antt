@@ -1,6 +1,6 @@
 -- What the table of a node by itself says of attempts that are asked for, and of what came of one (own).
 use Rattle.std.specs.Prelude.{ℕ, pred, Bool, true, ◌==◌, not, List, [], ◌∷◌, length, Option, Some, None, if◌then◌else◌}
-use Rattle.mc_model.specs.message.Decree.{Attempt, Decree, Failed, Fate, Kind, Taken}
+use Rattle.mc_model.specs.message.Decree.{Attempt, Decree, Failed, Fate, Told, Kind, Taken}
 use Rattle.mc_model.specs.synod.Packet.{Slot, slot_at}
 use Rattle.mc_model.specs.node.Grant.{AlreadyGranted, GrantRefusal, NotChosen, NotMine, OlderIncarnation}
 use Rattle.mc_model.specs.node.Outcome.{Outcome, decree_of}
@@ -21,6 +21,7 @@ newest_refusal t granted newest (Taken message) = Some NotChosen
 newest_refusal t granted newest (Attempt number) = attempt_refusal t granted newest
 newest_refusal t granted newest (Failed error) = Some NotChosen
 newest_refusal t granted newest (Fate final error) = Some NotChosen
+newest_refusal t granted newest Told = Some NotChosen
 
 abbrev pub chain_refusal : TableNode → Bool → List Decree → Option GrantRefusal
 chain_refusal t granted [] = Some NotChosen

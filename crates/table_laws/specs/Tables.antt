@@ -7,8 +7,8 @@ use Rattle.std.specs.Map.{lookup}
 use Rattle.std.specs.BTreeMap.{insert_entry, is_at}
 use Rattle.mc_model.specs.message.Ids.{IsSerial, id_of}
 use Rattle.mc_model.specs.message.Submission.{Submission}
-use Rattle.mc_model.specs.message.Decree.{Decree, Deleted, Fate, Kind, Taken}
-use Rattle.mc_model.specs.message.Chain.{taken_in}
+use Rattle.mc_model.specs.message.Decree.{Decree, Deleted, Fate, Final, Kind, Taken}
+use Rattle.mc_model.specs.message.Chain.{final_in, taken_in}
 use Rattle.mc_model.specs.node.Actor.{Cancel, Query, Request, Submit, id_in, opening_clock}
 use Rattle.mc_model.specs.node.Effect.{next_serial}
 use Rattle.mc_model.specs.node.Outputs.{Receipt, Reply}
@@ -85,13 +85,13 @@ shown account source chain None = Unknown
 shown account source chain (Some message) = if is_owner message account source then Shown chain else NotOwner
 
 -- a cancel_sm that matches, by the newest decree: ESME_ROK if the message is DELETED
-abbrev pub removed : Kind → List Decree → Answer
-removed (Fate Deleted error) chain = Removed chain
-removed kind chain = Kept chain
+abbrev pub removed : Option Final → List Decree → Answer
+removed (Some Deleted) chain = Removed chain
+removed state chain = Kept chain
 
 abbrev pub removed_in : List Decree → Answer
 removed_in [] = Unknown
-removed_in (newest ∷ older) = removed newest.kind (newest ∷ older)
+removed_in (newest ∷ older) = removed (final_in (newest ∷ older)) (newest ∷ older)
 
 abbrev pub cancelled : List ℕ → List ℕ → List ℕ → List Decree → Option Submission → Answer
 cancelled account source destination chain None = Unknown

@@ -3,7 +3,7 @@ use Rattle.std.specs.Prelude.{ℕ, ◌+◌, ◌*◌, max, Bool, ◌==◌, ◌&&�
 use Rattle.std.specs.Option.{option_or}
 use Rattle.std.specs.Map.{keys_of}
 use Rattle.mc_model.specs.message.Submission.{Submission}
-use Rattle.mc_model.specs.message.Decree.{Attempt, Decree, Expired, Failed, Fate, Kind, Taken, Undeliverable}
+use Rattle.mc_model.specs.message.Decree.{Attempt, Decree, Expired, Failed, Fate, Told, Kind, Taken, Undeliverable}
 use Rattle.mc_model.specs.message.Neighbours.{most_attempts, retry_delay}
 use Rattle.mc_model.specs.message.Chain.{attempts_in, taken_in}
 use Rattle.mc_model.specs.node.Outcome.{no_session_error, older_incarnation_error}
@@ -49,6 +49,7 @@ due_behind t granted up message newest older (Failed error) =
     (option_or (gives_up (attempts_in (newest ∷ older)) error)
     (tries_again up message newest.moment (attempts_in (newest ∷ older)) (moment_behind t.clock (newest ∷ older))))
 due_behind t granted up message newest older (Fate final error) = None
+due_behind t granted up message newest older Told = None
 
 abbrev pub due_of : TableNode → (List ℕ → Bool) → Bool → List Decree → Option Submission → Option Kind
 due_of t up granted [] taken = None

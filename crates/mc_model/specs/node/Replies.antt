@@ -3,7 +3,7 @@
 use Rattle.std.specs.Prelude.{◌≡◌, ℕ, ◌+◌, ◌≤◌, true, List, ◌∷◌, Option, Some, None}
 use Rattle.mc_model.specs.message.Ids.{node_of}
 use Rattle.mc_model.specs.message.Submission.{Submission}
-use Rattle.mc_model.specs.message.Decree.{Attempt, Decree, Deleted, Delivered, Expired, Final, Kind, Rejected, Undeliverable}
+use Rattle.mc_model.specs.message.Decree.{Decree, Deleted, Delivered, Expired, Failed, Final, Kind, Rejected, Taken, Undeliverable}
 use Rattle.mc_model.specs.message.Chain.{final_in, taken_in}
 use Rattle.mc_model.specs.node.Actor.{Actor, Cancel, Query, Request, Submit, Waiting, id_in, name_of}
 use Rattle.mc_model.specs.node.Room.{IsWaiting}
@@ -33,10 +33,12 @@ pub data Answer : Type 0 where
 abbrev pub longest_wait : ℕ
 longest_wait = 30
 
--- by its state and its newest decree: an attempt of the message is open, or it has another final state than DELETED
+-- by its state and its newest decree: a message that was taken, or of which an attempt failed, is to be deleted; one of which an
+-- attempt is open, or that has another final state than DELETED, is kept
 abbrev pub KeepsMessage : Option Final → Kind → Type 0
-KeepsMessage None (Attempt number) = Unit {0}
-KeepsMessage None kind = ⊥
+KeepsMessage None (Taken message) = ⊥
+KeepsMessage None (Failed error) = ⊥
+KeepsMessage None kind = Unit {0}
 KeepsMessage (Some Delivered) kind = Unit {0}
 KeepsMessage (Some Expired) kind = Unit {0}
 KeepsMessage (Some Deleted) kind = ⊥

@@ -250,8 +250,8 @@ module _ (nodes node : ℕ) (a : Actor) (h : Held) (is : IsHeld a.received (name
         by_state None (Taken of) ends is = waits (Taken of) ends is (λ none. none)
         by_state None (Attempt number) ends is = keeps None (Attempt number) ends is tt
         by_state None (Failed error) ends is = waits (Failed error) ends is (λ none. none)
-        by_state None (Fate final error) ends is = waits (Fate final error) ends is (λ none. none)
-        by_state None Told ends is = waits Told ends is (λ none. none)
+        by_state None (Fate final error) ends is = keeps None (Fate final error) ends is tt
+        by_state None Told ends is = keeps None Told ends is tt
         by_state (Some Delivered) kind ends is = keeps (Some Delivered) kind ends is tt
         by_state (Some Expired) kind ends is = keeps (Some Expired) kind ends is tt
         by_state (Some Deleted) kind ends is = record {
