@@ -84,7 +84,7 @@ abbrev pub shown : List ℕ → List ℕ → List Decree → Option Submission �
 shown account source chain None = Unknown
 shown account source chain (Some message) = if is_owner message account source then Shown chain else NotOwner
 
--- a cancel_sm that matches, by the newest decree: ESME_ROK if the message is DELETED
+-- a cancel_sm that matches, by the state: ESME_ROK if the message is DELETED
 abbrev pub removed : Option Final → List Decree → Answer
 removed (Some Deleted) chain = Removed chain
 removed state chain = Kept chain

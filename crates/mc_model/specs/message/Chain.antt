@@ -48,7 +48,7 @@ MayExtend (Some message) [] next = ⊥
 MayExtend (Some message) (newest ∷ older) next =
     (newest.moment ≤ next.moment)
     × MayFollow message (home_in (newest ∷ older)) (attempts_in (newest ∷ older)) newest.author newest.moment newest.kind
-        next.author next.moment next.kind
+    next.author next.moment next.kind
 
 -- A permitted chain: its first decree may begin it, and each other one may follow.
 abbrev pub IsPermitted : ℕ → List Decree → Type 0
