@@ -2,7 +2,7 @@
 use Rattle.std.proofs.Common.{◌≡◌, ℕ, suc, pred, ◌+◌, ◌<◌, ◌^◌, Bool, true, false, cond, List, [], ◌∷◌, length, Option, Some, None, refl}
 use Rattle.std.proofs.Common.{sym, ◌∙◌, ap, subst, arith}
 use Rattle.mc_model.specs.message.Chain.{taken_in}
-use Rattle.mc_model.specs.message.Decree.{Attempt, Decree, Failed, Fate, Kind, Taken}
+use Rattle.mc_model.specs.message.Decree.{Attempt, Decree, Failed, Fate, Told, Kind, Taken}
 use Rattle.mc_model.specs.message.Submission.{Submission}
 use Rattle.std.specs.Prelude.{◌==◌, not}
 use Rattle.mc_model.specs.node.Grant.{AlreadyGranted, GrantRefusal, NotMine, OlderIncarnation}
@@ -143,6 +143,7 @@ module _ (t : TableNode) where
   newest_grants granted newest (Attempt number) none = (may_grant granted newest none, refl)
   newest_grants granted newest (Failed error) none = absurd cc
   newest_grants granted newest (Fate final error) none = absurd cc
+  newest_grants granted newest Told none = absurd cc
 
   chain_grants : (granted : Bool) (chain : List Decree) → chain_refusal t granted chain ≡ None → (granted ≡ true → ⊥) × IsUnderway chain
   chain_grants granted [] none = absurd cc

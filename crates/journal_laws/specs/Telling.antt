@@ -1,7 +1,7 @@
 -- The headline, and what later requests are answered, in the words of a journal (own).
 use Rattle.std.specs.Prelude.{◌≡◌, ℕ, List, ◌∷◌, ◌++◌, Some, reverse}
 use Rattle.mc_model.specs.message.Decree.{Attempt, Decree, Delivered, Fate, Final}
-use Rattle.mc_model.specs.message.Chain.{final_in}
+use Rattle.mc_model.specs.message.Chain.{final_in, untold}
 use Rattle.mc_model.specs.synod.Lists.{In}
 use Rattle.mc_model.specs.synod.Packet.{Packet, slot_of}
 use Rattle.mc_model.specs.node.Outputs.{Outputs}
@@ -58,14 +58,14 @@ pub record StandInOneLife (node : ℕ) (first second : Entry) (entries : List En
   pub split : entries ≡ older ++ first ∷ (middle ++ second ∷ newer)
   pub lives : LivesOn node middle
 
--- A chain ends in the fate DELIVERED behind an attempt of the same author. One of these entries granted that attempt at its author's node; a later one
+-- A chain ends in the fate DELIVERED, told or not, behind an attempt of the same author. One of these entries granted that attempt at its author's node; a later one
 -- took its answer ESME_ROK there, in the same life of the node.
 pub record StandsOnAnAttempt (id : ℕ) (chain : List Decree) (entries : List Entry) : Type 0 where
   pub fate : Decree
   pub attempt : Decree
   pub older : List Decree
   pub number : ℕ
-  pub chain_is : chain ≡ fate ∷ attempt ∷ older
+  pub chain_is : untold chain ≡ fate ∷ attempt ∷ older
   pub attempted : attempt.kind ≡ Attempt number
   pub delivered : fate.kind ≡ Fate Delivered 0
   pub author : fate.author ≡ attempt.author

@@ -142,7 +142,7 @@ pub record CameInOneLife (node : ℕ) (first second : Input) (inputs : List Node
   pub split : inputs ≡ newer ++ comes_to node second ∷ (middle ++ comes_to node first ∷ older)
   pub lives : LivesOn node middle
 
--- A chain ends in the fate DELIVERED behind an attempt of the same author. As these inputs came, the newest first, that attempt was granted at
+-- A chain ends in the fate DELIVERED, told or not, behind an attempt of the same author. As these inputs came, the newest first, that attempt was granted at
 -- its author's node, and then, in the same life of the node, answered there by ESME_ROK.
 pub record IsDeliveredBy (id : ℕ) (chain : List Decree) (inputs : List NodeInput) : Type 0 where
   pub fate : Decree

@@ -2,8 +2,8 @@
 use Rattle.std.proofs.Common.{◌≡◌, ◌⊎◌, ℕ, ◌<◌, ◌≤◌, Bool, true, false, List, [], ◌∷◌, map, Option, Some, None, refl}
 use Rattle.std.proofs.Common.{sym, ◌∙◌, ap, subst, inl, inr, arith}
 use Rattle.std.specs.Prelude.{◌==◌, if◌then◌else◌, filter, max, pred}
-use Rattle.mc_model.specs.message.Decree.{Attempt, Decree, Deleted, Delivered, Expired, Failed, Fate, Kind, Rejected, Taken, Undeliverable}
-use Rattle.mc_model.specs.message.Chain.{taken_in}
+use Rattle.mc_model.specs.message.Decree.{Attempt, Decree, Deleted, Delivered, Expired, Failed, Fate, Told, Final, Kind, Rejected, Taken, Undeliverable}
+use Rattle.mc_model.specs.message.Chain.{final_in, taken_in}
 use Rattle.mc_model.specs.message.Submission.{Submission}
 use Rattle.mc_model.specs.synod.Lists.{In}
 use Rattle.mc_model.specs.synod.OneSlot.{Vote}
@@ -144,19 +144,21 @@ shown_by None false settled (Cancel id account source destination) chain is = ab
 shown_by (Some decrees) reached false (Cancel id account source destination) chain is = absurd cc
 shown_by (Some decrees) reached true (Cancel id account source destination) chain is = absurd (decided (taken_in decrees) is)
   where
-    by_kind : (kind : Kind) (all : List Decree) → cancel_answer kind all ≡ Some (Shown chain) → ⊥
-    by_kind (Taken message) all is = cc
-    by_kind (Attempt number) all is = cc
-    by_kind (Failed error) all is = cc
-    by_kind (Fate Delivered error) all is = cc
-    by_kind (Fate Expired error) all is = cc
-    by_kind (Fate Deleted error) all is = cc
-    by_kind (Fate Undeliverable error) all is = cc
-    by_kind (Fate Rejected error) all is = cc
+    by_state : (state : Option Final) (kind : Kind) (all : List Decree) → cancel_answer state kind all ≡ Some (Shown chain) → ⊥
+    by_state None (Taken message) all is = cc
+    by_state None (Attempt number) all is = cc
+    by_state None (Failed error) all is = cc
+    by_state None (Fate final error) all is = cc
+    by_state None Told all is = cc
+    by_state (Some Delivered) kind all is = cc
+    by_state (Some Expired) kind all is = cc
+    by_state (Some Deleted) kind all is = cc
+    by_state (Some Undeliverable) kind all is = cc
+    by_state (Some Rejected) kind all is = cc
 
     by_chain : (all : List Decree) → cancel_answer_of all ≡ Some (Shown chain) → ⊥
     by_chain [] is = cc
-    by_chain (newest ∷ older) is = by_kind newest.kind (newest ∷ older) is
+    by_chain (newest ∷ older) is = by_state (final_in (newest ∷ older)) newest.kind (newest ∷ older) is
 
     by_test : (test : Bool) → (if test then cancel_answer_of decrees else Some (NotMatched decrees)) ≡ Some (Shown chain) → ⊥
     by_test true is = by_chain decrees is

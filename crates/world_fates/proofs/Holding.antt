@@ -1,8 +1,8 @@
 -- What a step of a node leaves of the requests that it holds, by their tickets, and which of them its replies answer.
 use Rattle.std.proofs.Common.{◌≡◌, ◌⊎◌, ℕ, max, Bool, true, false, List, [], ◌∷◌, map, Option, Some, None, refl, sym, ap, subst, ◌∙◌, inl, inr}
 use Rattle.std.specs.Prelude.{◌==◌, filter, not, if◌then◌else◌}
-use Rattle.mc_model.specs.message.Chain.{taken_in}
-use Rattle.mc_model.specs.message.Decree.{Attempt, Decree, Deleted, Delivered, Expired, Failed, Fate, Kind, Rejected, Taken, Undeliverable}
+use Rattle.mc_model.specs.message.Chain.{final_in, taken_in}
+use Rattle.mc_model.specs.message.Decree.{Attempt, Decree, Deleted, Delivered, Expired, Failed, Fate, Told, Final, Kind, Rejected, Taken, Undeliverable}
 use Rattle.mc_model.specs.message.Submission.{Submission}
 use Rattle.mc_model.specs.synod.Lists.{In}
 use Rattle.mc_model.specs.synod.OneSlot.{Vote}
@@ -161,19 +161,22 @@ so_may : (request : Request) (one answer : Answer) → MayAnswer one request →
 so_may request one answer may is = subst (λ (a : Answer). MayAnswer a request) (the_answer one answer is) may
 
 module _ (id : ℕ) (account source destination : List ℕ) (answer : Answer) where
-  cancel_may : (kind : Kind) (chain : List Decree) → cancel_answer kind chain ≡ Some answer → MayAnswer answer (Cancel id account source destination)
-  cancel_may (Taken message) chain is = absurd cc
-  cancel_may (Attempt number) chain is = so_may (Cancel id account source destination) (Keeps chain) answer tt is
-  cancel_may (Failed error) chain is = absurd cc
-  cancel_may (Fate Delivered error) chain is = so_may (Cancel id account source destination) (Keeps chain) answer tt is
-  cancel_may (Fate Expired error) chain is = so_may (Cancel id account source destination) (Keeps chain) answer tt is
-  cancel_may (Fate Deleted error) chain is = so_may (Cancel id account source destination) (Removed chain) answer tt is
-  cancel_may (Fate Undeliverable error) chain is = so_may (Cancel id account source destination) (Keeps chain) answer tt is
-  cancel_may (Fate Rejected error) chain is = so_may (Cancel id account source destination) (Keeps chain) answer tt is
+  cancel_may : (state : Option Final) (kind : Kind) (chain : List Decree) → cancel_answer state kind chain ≡ Some answer →
+      MayAnswer answer (Cancel id account source destination)
+  cancel_may None (Taken message) chain is = absurd cc
+  cancel_may None (Attempt number) chain is = so_may (Cancel id account source destination) (Keeps chain) answer tt is
+  cancel_may None (Failed error) chain is = absurd cc
+  cancel_may None (Fate final error) chain is = so_may (Cancel id account source destination) (Keeps chain) answer tt is
+  cancel_may None Told chain is = so_may (Cancel id account source destination) (Keeps chain) answer tt is
+  cancel_may (Some Delivered) kind chain is = so_may (Cancel id account source destination) (Keeps chain) answer tt is
+  cancel_may (Some Expired) kind chain is = so_may (Cancel id account source destination) (Keeps chain) answer tt is
+  cancel_may (Some Deleted) kind chain is = so_may (Cancel id account source destination) (Removed chain) answer tt is
+  cancel_may (Some Undeliverable) kind chain is = so_may (Cancel id account source destination) (Keeps chain) answer tt is
+  cancel_may (Some Rejected) kind chain is = so_may (Cancel id account source destination) (Keeps chain) answer tt is
 
   chain_may : (chain : List Decree) → cancel_answer_of chain ≡ Some answer → MayAnswer answer (Cancel id account source destination)
   chain_may [] is = absurd cc
-  chain_may (newest ∷ older) is = cancel_may newest.kind (newest ∷ older) is
+  chain_may (newest ∷ older) is = cancel_may (final_in (newest ∷ older)) newest.kind (newest ∷ older) is
 
   decided_may : (chain : List Decree) (taken : Option Submission) → cancel_decided account source destination chain taken ≡ Some answer →
       MayAnswer answer (Cancel id account source destination)

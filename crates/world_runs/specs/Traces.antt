@@ -1,7 +1,7 @@
 -- What a list of steps of a world gave, as a run of the model's cluster (own).
 use Rattle.std.specs.Prelude.{◌≡◌, ◌⊎◌, ℕ, ◌+◌, ◌≤◌, List, [], ◌∷◌, ◌++◌, length, map, take, zip, Some, None, Result, Ok, Err}
 use Rattle.mc_model.specs.message.Decree.{Attempt, Decree, Delivered, Fate, Final}
-use Rattle.mc_model.specs.message.Chain.{final_in}
+use Rattle.mc_model.specs.message.Chain.{final_in, untold}
 use Rattle.mc_model.specs.synod.Lists.{In}
 use Rattle.mc_model.specs.synod.Packet.{Packet, Slot, slot_of}
 use Rattle.mc_model.specs.node.Input.{Restart}
@@ -149,14 +149,14 @@ pub record IsAnswered (event : Event) (node : ℕ) (slot : Slot) : Type 0 where
   pub given : Given
   pub is : event ≡ Tried (steps.Answered node slot outcomes.Delivered) (Ok given)
 
--- A chain ends in the fate DELIVERED behind an attempt of the same author. By these events, the first of them first, that attempt was granted at its
+-- A chain ends in the fate DELIVERED, told or not, behind an attempt of the same author. By these events, the first of them first, that attempt was granted at its
 -- author's node, and then, in the same life of the node, answered there by ESME_ROK.
 pub record StandsOnAnAttempt (id : ℕ) (chain : List Decree) (events : List Event) : Type 0 where
   pub fate : Decree
   pub attempt : Decree
   pub older : List Decree
   pub number : ℕ
-  pub chain_is : chain ≡ fate ∷ attempt ∷ older
+  pub chain_is : untold chain ≡ fate ∷ attempt ∷ older
   pub attempted : attempt.kind ≡ Attempt number
   pub delivered : fate.kind ≡ Fate Delivered 0
   pub author : fate.author ≡ attempt.author

@@ -1,8 +1,8 @@
 -- What is taken of a message came as a submit_sm.
 use Rattle.std.proofs.Common.{◌≡◌, ℕ, true, false, List, [], ◌∷◌, ◌++◌, map, Option, Some, refl, sym, ◌∙◌, ap, subst, inl, inr}
 use Rattle.mc_model.specs.message.Submission.{Submission}
-use Rattle.mc_model.specs.message.Decree.{Attempt, Author, Decree, Failed, Fate, Kind, Taken}
-use Rattle.mc_model.specs.message.Chain.{attempts_in, taken_by, taken_in}
+use Rattle.mc_model.specs.message.Decree.{Attempt, Author, Decree, Failed, Fate, Told, Kind, Taken}
+use Rattle.mc_model.specs.message.Chain.{attempts_in, home_in, taken_by, taken_in}
 use Rattle.mc_model.specs.message.Neighbours.{MayFollow}
 use Rattle.mc_model.specs.synod.Acceptor.{Records}
 use Rattle.mc_model.specs.synod.Lists.{In}
@@ -162,15 +162,17 @@ some_same : (one other : Submission) → Some one ≡ Some other → one ≡ oth
 some_same one other is = cc
 
 -- a decree that follows takes nothing
-takes_as_before : (message : Submission) (attempts : ℕ) (old : Author) (before : ℕ) (kind : Kind) (author : Author) (moment : ℕ) (next : Kind)
-    (older : Option Submission) → MayFollow message attempts old before kind author moment next → taken_by next older ≡ older
-takes_as_before message attempts old before (Taken m) author moment (Taken taken) older may = absurd may
-takes_as_before message attempts old before (Attempt n) author moment (Taken taken) older may = absurd may
-takes_as_before message attempts old before (Failed n) author moment (Taken taken) older may = absurd may
-takes_as_before message attempts old before (Fate f n) author moment (Taken taken) older may = absurd may
-takes_as_before message attempts old before kind author moment (Attempt number) older may = refl
-takes_as_before message attempts old before kind author moment (Failed error) older may = refl
-takes_as_before message attempts old before kind author moment (Fate final error) older may = refl
+takes_as_before : (message : Submission) (home attempts : ℕ) (old : Author) (before : ℕ) (kind : Kind) (author : Author) (moment : ℕ) (next : Kind)
+    (older : Option Submission) → MayFollow message home attempts old before kind author moment next → taken_by next older ≡ older
+takes_as_before message home attempts old before (Taken m) author moment (Taken taken) older may = absurd may
+takes_as_before message home attempts old before (Attempt n) author moment (Taken taken) older may = absurd may
+takes_as_before message home attempts old before (Failed n) author moment (Taken taken) older may = absurd may
+takes_as_before message home attempts old before (Fate f n) author moment (Taken taken) older may = absurd may
+takes_as_before message home attempts old before Told author moment (Taken taken) older may = absurd may
+takes_as_before message home attempts old before kind author moment (Attempt number) older may = refl
+takes_as_before message home attempts old before kind author moment (Failed error) older may = refl
+takes_as_before message home attempts old before kind author moment (Fate final error) older may = refl
+takes_as_before message home attempts old before kind author moment Told older may = refl
 
 own_begun : (w : World) → Holds w → AllProposed TakesBegun w → (node id : ℕ) (chain : List Decree) → IsOwn (IsChosenIn w) node (w.actors node) id chain →
     TakesBegun w id chain
@@ -185,7 +187,7 @@ own_begun w h good node id chain (inl first) message is =
     }
 own_begun w h good node id chain (inr n) message is =
     let before = chosen_good TakesBegun w h.keeps good (slot_of id (n.newest ∷ n.older)) _ n.chosen in
-    before message (sym (takes_as_before n.taken (attempts_in (n.newest ∷ n.older)) n.newest.author n.newest.moment n.newest.kind n.next.author n.next.moment
+    before message (sym (takes_as_before n.taken (home_in (n.newest ∷ n.older)) (attempts_in (n.newest ∷ n.older)) n.newest.author n.newest.moment n.newest.kind n.next.author n.next.moment
     n.next.kind (taken_in (n.newest ∷ n.older)) n.may.1) ∙ ap taken_in (sym n.chain_is) ∙ is)
 
 begun_later : (past : List Deed) (deed : Deed) (message : Submission) → HasBegun past message → HasBegun (deed ∷ past) message
