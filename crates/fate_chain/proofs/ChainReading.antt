@@ -4,7 +4,7 @@ use Rattle.std.proofs.Common.{Result, Ok, Err, refl, sym, ap, subst, ◌∙◌, 
 use Rattle.std.proofs.lemmas.Bool.{eqb-true, eqb-false}
 use Rattle.std.proofs.lemmas.List.{append-nil}
 use Rattle.mc_model.specs.message.Submission.{Submission}
-use Rattle.mc_model.specs.message.Decree.{Kind, Taken, Attempt, Failed, Fate, Final, Delivered, Expired, Deleted, Undeliverable, Rejected, Decree}
+use Rattle.mc_model.specs.message.Decree.{Kind, Taken, Attempt, Failed, Fate, Told, Final, Delivered, Expired, Deleted, Undeliverable, Rejected, Decree}
 use Rattle.mc_model.specs.message.Chain.{Chain}
 use Rattle.mc_types.proofs.Texts.{is_id-tells, is_id-told}
 use Rattle.octet_fields.specs.declared.defect.Defect.{Defect}
@@ -24,7 +24,7 @@ use Rattle.fate_chain.specs.Bytes.{MessageFits, KindFits, DecreeFits, DecreesFit
 use Rattle.fate_chain.specs.declared.format.Format.{Format}
 use Rattle.fate_chain.specs.declared.format.Format.TheVariants.{First, Second}
 use Rattle.fate_chain.specs.Content.{has_room}
-use Rattle.fate_chain.specs.Bytes.{format_number, format_of, is_content, octets_in, texts_at}
+use Rattle.fate_chain.specs.Bytes.{format_number, format_of, is_content, most_kind, octets_in, texts_at}
 use Rattle.fate_chain.specs.Bytes.{kind_at, decree_of, decree_at, decrees_at, chain_from, chain_at, read_chain}
 
 abbrev done : {A : Type 0} → A → Result A Defect
@@ -57,6 +57,10 @@ apart a b c rest = append_assoc (a ++ b) c rest ∙ append_assoc a b (c ++ rest)
 texts_delimited : (format : Format) → are_delimited (text_fields format) ≡ true
 texts_delimited First = refl
 texts_delimited Second = refl
+
+kinds_few : (format : Format) → most_kind format ≤ 5
+kinds_few First = omega arith
+kinds_few Second = omega arith
 
 passing_takes : {A : Type 0} (test : A → Bool) (y x : A × List ℕ) → passing test y ≡ Ok x → (test x.0 ≡ true) × (y ≡ x)
 passing_takes {A} test y x e = by (test y.0) refl e
@@ -184,6 +188,11 @@ module _ (format : Format) where
           fits = subst (λ (h : Contents (octet ∷ error ∷ [])). AreWithin (octet ∷ error ∷ []) h) code_is front.within;
         })
 
+    told : code ≡ 5 → done (Told, octets) ≡ Ok x → TakesKind code octets x
+    told is e =
+        let made : Kind × List ℕ = (Told, octets) in
+        subst (λ (y : Kind × List ℕ). TakesKind code octets y) (ok_is made x e) (record { code_is = sym is; parts = refl; rest = are; fits = tt })
+
     choose : {r s : Result (Kind × List ℕ) Defect} (n : ℕ) → (code ≡ n → r ≡ Ok x → TakesKind code octets x) →
         ((code ≡ n → ⊥) → s ≡ Ok x → TakesKind code octets x) → cond (eqb code n) r s ≡ Ok x →
         TakesKind code octets x
@@ -193,10 +202,11 @@ module _ (format : Format) where
         by true is e = then' (eqb-true _ _ is) e
         by false is e = else' (eqb-false _ _ is) e
 
-    kind_takes : 1 ≤ code → code ≤ 4 → kind_at format code octets ≡ Ok x → TakesKind code octets x
+    kind_takes : 1 ≤ code → code ≤ most_kind format → kind_at format code octets ≡ Ok x → TakesKind code octets x
     unfolding kind_at
     kind_takes least most e =
-        choose 1 taken (λ not1. choose 2 attempt (λ not2. choose 3 failed (λ not3. fate (omega (arith, not1, not2, not3))))) e
+        choose 1 taken (λ not1. choose 2 attempt (λ not2. choose 3 failed (λ not3. choose 4 fate
+        (λ not4. told (omega (arith, most, kinds_few format, not1, not2, not3, not4)))))) e
 
   kind_again : (kind : Kind) (rest : List ℕ) → KindFits format kind → kind_at format (kind_code kind) (kind_octets format kind ++ rest) ≡ Ok (kind, rest)
   unfolding kind_at
@@ -209,6 +219,7 @@ module _ (format : Format) where
       ap (λ (o : Result (Contents (octet ∷ error ∷ []) × List ℕ) Defect). o >>= λ y. found (final_in y.0.0) >>= λ f. done
       (Fate f y.0.1.0, y.1)) (front_again (octet ∷ error ∷ []) (final_code final, (cause, tt)) rest refl fits)
       ∙ ap (λ (o : Option Final). found o >>= λ f. done (Fate f cause, rest)) (final-told final)
+  kind_again Told rest fits = refl
 
   -- ---- decrees
 
@@ -220,27 +231,27 @@ module _ (format : Format) where
   decree_takes : (octets : List ℕ) (x : Decree × List ℕ) → IsOctets octets → decree_at format octets ≡ Ok x → TakesDecree octets x
   unfolding decree_at decree_octets
   decree_takes octets x are e =
-      let a = bind_ok (front_at head_fields octets) (λ h. kind_at format h.0.0 h.1 >>= λ k. Ok (decree_of h.0 k.0, k.1)) x e in
+      let a = bind_ok (front_at (head_fields format) octets) (λ h. kind_at format h.0.0 h.1 >>= λ k. Ok (decree_of h.0 k.0, k.1)) x e in
       let b = bind_ok (kind_at format a.0.0.0 a.0.1) (λ k. Ok (decree_of a.0.0 k.0, k.1)) x a.2 in
-      let head = front_takes head_fields octets a.0 are a.1 in
-      let code = is_between-tells 1 4 a.0.0.0 head.within.0.1 in
+      let head = front_takes (head_fields format) octets a.0 are a.1 in
+      let code = is_between-tells 1 (most_kind format) a.0.0.0 head.within.0.1 in
       let kind = kind_takes a.0.0.0 a.0.1 b.0 head.rest code.0 code.1 b.1 in
       let made : Decree × List ℕ = (decree_of a.0.0 b.0.0, b.0.1) in
       let head_is : head_in made.0 ≡ a.0.0 = ap (λ (code : ℕ). (code, a.0.0.1)) kind.code_is in
       subst (λ (y : Decree × List ℕ). TakesDecree octets y) (ok_is made x b.2) (record {
-        parts = head.parts ∙ ap (λ (r : List ℕ). spellings head_fields a.0.0 ++ r) kind.parts ∙ sym
-            (append_assoc (spellings head_fields a.0.0) (kind_octets format b.0.0) b.0.1) ∙ ap
-            (λ (h : Contents head_fields). (spellings head_fields h ++ kind_octets format b.0.0) ++ b.0.1) (sym head_is);
+        parts = head.parts ∙ ap (λ (r : List ℕ). spellings (head_fields format) a.0.0 ++ r) kind.parts ∙ sym
+            (append_assoc (spellings (head_fields format) a.0.0) (kind_octets format b.0.0) b.0.1) ∙ ap
+            (λ (h : Contents (head_fields format)). (spellings (head_fields format) h ++ kind_octets format b.0.0) ++ b.0.1) (sym head_is);
         rest = kind.rest;
-        fits = record { head = subst (λ (h : Contents head_fields). AreWithin head_fields h) (sym head_is) head.within; kind = kind.fits };
+        fits = record { head = subst (λ (h : Contents (head_fields format)). AreWithin (head_fields format) h) (sym head_is) head.within; kind = kind.fits };
       })
 
   decree_again : (d : Decree) (rest : List ℕ) → DecreeFits format d → decree_at format (decree_octets format d ++ rest) ≡ Ok (d, rest)
   unfolding decree_at decree_octets
   decree_again d rest fits =
-      ap (decree_at format) (append_assoc (spellings head_fields (head_in d)) (kind_octets format d.kind) rest)
-      ∙ ap (λ (o : Result (Contents head_fields × List ℕ) Defect). o >>= λ h. kind_at format h.0.0 h.1 >>= λ k. Ok (decree_of h.0 k.0, k.1))
-      (front_again head_fields (head_in d) (kind_octets format d.kind ++ rest) refl fits.head)
+      ap (decree_at format) (append_assoc (spellings (head_fields format) (head_in d)) (kind_octets format d.kind) rest)
+      ∙ ap (λ (o : Result (Contents (head_fields format) × List ℕ) Defect). o >>= λ h. kind_at format h.0.0 h.1 >>= λ k. Ok (decree_of h.0 k.0, k.1))
+      (front_again (head_fields format) (head_in d) (kind_octets format d.kind ++ rest) refl fits.head)
       ∙ ap (λ (o : Result (Kind × List ℕ) Defect). o >>= λ k. Ok (decree_of (head_in d) k.0, k.1)) (kind_again d.kind rest fits.kind)
 
   -- ---- decrees one after another

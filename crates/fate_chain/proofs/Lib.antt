@@ -1,4 +1,5 @@
 pub mod Permitted
+pub mod Untold
 pub mod Following
 pub mod ChainReading
 pub mod Written

@@ -1,9 +1,10 @@
 -- The octets of a chain, all numbers with their highest octet first: the format's number; the id; how many decrees there are; each decree, the
--- oldest first. Chains are written in format 2. Format 1, which earlier programs wrote, is read, too: it differs in the text of a message alone.
+-- oldest first. Chains are written in format 2. Format 1, which earlier programs wrote, is read, too: it differs in the text of a message, and
+-- tells no receipts.
 use Rattle.std.specs.Prelude.{Bool, IsTrue, ℕ, zero, suc, ◌≡◌, ◌≤◌, ◌==◌, List, [], ◌∷◌, ◌++◌, length, Option, Some, None, Result, Ok, Err, is_ok, if◌then◌else◌}
 use Rattle.mc_model.specs.message.Ids.{IsId}
 use Rattle.mc_model.specs.message.Submission.{Submission}
-use Rattle.mc_model.specs.message.Decree.{Kind, Taken, Attempt, Failed, Fate, Decree}
+use Rattle.mc_model.specs.message.Decree.{Kind, Taken, Attempt, Failed, Fate, Told, Decree}
 use Rattle.mc_model.specs.message.Chain.{Chain, IsPermitted}
 use Rattle.mc_types.specs.Texts.{is_id}
 use Rattle.octet_fields.specs.declared.defect.Defect.{Defect}
@@ -35,6 +36,11 @@ length_size Second = Two
 abbrev pub longest : Format → ℕ
 longest First = most_short
 longest Second = most_text
+
+-- the highest number of a kind of decree
+abbrev pub most_kind : Format → ℕ
+most_kind First = 4
+most_kind Second = 5
 
 -- ---- the fields of chains
 
@@ -100,11 +106,13 @@ kind_code (Taken message) = 1
 kind_code (Attempt number) = 2
 kind_code (Failed cause) = 3
 kind_code (Fate final cause) = 4
+kind_code Told = 5
 
-abbrev pub head_fields : List (Part Defect)
-head_fields = between One 1 4 ∷ between One 1 9 ∷ between Two 1 9999 ∷ moment ∷ []
+abbrev pub head_fields : Format → List (Part Defect)
+head_fields format = between One 1 (most_kind format) ∷ between One 1 9 ∷ between Two 1 9999 ∷ moment ∷ []
 
-abbrev pub head_in : Decree → Contents head_fields
+-- what stands in these fields is of one form in both formats
+abbrev pub head_in : Decree → Contents (head_fields Second)
 head_in d = (kind_code d.kind, (d.author.node, (d.author.incarnation, (d.moment, tt))))
 
 abbrev pub submission_octets : Format → Submission → List ℕ
@@ -116,9 +124,10 @@ kind_octets format (Taken message) = submission_octets format message
 kind_octets format (Attempt number) = spellings (octet ∷ []) (number, tt)
 kind_octets format (Failed cause) = spellings (error ∷ []) (cause, tt)
 kind_octets format (Fate final cause) = spellings (octet ∷ error ∷ []) (final_code final, (cause, tt))
+kind_octets format Told = []
 
 unfoldable pub decree_octets : Format → Decree → List ℕ
-decree_octets format d = spellings head_fields (head_in d) ++ kind_octets format d.kind
+decree_octets format d = spellings (head_fields format) (head_in d) ++ kind_octets format d.kind
 
 -- of decrees that stand the newest first
 abbrev pub decrees_octets : Format → List Decree → List ℕ
@@ -149,9 +158,10 @@ KindFits format (Taken message) = MessageFits format message
 KindFits format (Attempt number) = AreWithin (octet ∷ []) (number, tt)
 KindFits format (Failed cause) = AreWithin (error ∷ []) (cause, tt)
 KindFits format (Fate final cause) = AreWithin (octet ∷ error ∷ []) (final_code final, (cause, tt))
+KindFits format Told = Unit {0}
 
 pub record DecreeFits (format : Format) (d : Decree) : Type 0 where
-  pub head : AreWithin head_fields (head_in d)
+  pub head : AreWithin (head_fields format) (head_in d)
   pub kind : KindFits format d.kind
 
 abbrev pub DecreesFit : Format → List Decree → Type 0
@@ -219,14 +229,15 @@ kind_at format code octets =
     if code == 1 then (message_at format octets >>= λ x. Ok (Taken x.0, x.1))
     else if code == 2 then (front_at (octet ∷ []) octets >>= λ x. Ok (Attempt x.0.0, x.1))
     else if code == 3 then (front_at (error ∷ []) octets >>= λ x. Ok (Failed x.0.0, x.1))
-    else (front_at (octet ∷ error ∷ []) octets >>= λ x. found (final_in x.0.0) >>= λ final. Ok (Fate final x.0.1.0, x.1))
+    else if code == 4 then (front_at (octet ∷ error ∷ []) octets >>= λ x. found (final_in x.0.0) >>= λ final. Ok (Fate final x.0.1.0, x.1))
+    else Ok (Told, octets)
 
-abbrev pub decree_of : Contents head_fields → Kind → Decree
+abbrev pub decree_of : Contents (head_fields Second) → Kind → Decree
 decree_of h kind = record { author = record { node = h.1.0; incarnation = h.1.1.0 }; moment = h.1.1.1.0; kind = kind }
 
 unfoldable pub decree_at : Format → List ℕ → Result (Decree × List ℕ) Defect
 decree_at format octets = do
-  h ← front_at head_fields octets
+  h ← front_at (head_fields format) octets
   k ← kind_at format h.0.0 h.1
   Ok (decree_of h.0 k.0, k.1)
 

@@ -1,5 +1,5 @@
 -- What a decree decides, as the model's.
-use Rattle.mc_model.specs.message.Decree.{Author, Kind, Taken, Attempt, Failed, Fate, Final, Delivered, Expired, Deleted, Undeliverable, Rejected}
+use Rattle.mc_model.specs.message.Decree.{Author, Kind, Taken, Attempt, Failed, Fate, Told, Final, Delivered, Expired, Deleted, Undeliverable, Rejected}
 use Rattle.fate_chain.specs.declared.decree.Author.{Author as Writer}
 use Rattle.fate_chain.specs.declared.decree.Final.{Final as Ending}
 use Rattle.fate_chain.specs.declared.decree.Final.TheVariants as endings
@@ -21,3 +21,4 @@ kind_of (decided.Taken message) = Taken message
 kind_of (decided.Attempt number) = Attempt number
 kind_of (decided.Failed error) = Failed error
 kind_of (decided.Fate final error) = Fate (final_of final) error
+kind_of decided.Told = Told

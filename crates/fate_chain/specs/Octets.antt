@@ -1,7 +1,7 @@
 -- What is seen in a decree as it stands in octets, and that its texts are some.
 use Rattle.std.specs.Prelude.{IsTrue, ◌≤◌, length}
 use Rattle.mc_model.specs.message.Submission.{Submission}
-use Rattle.mc_model.specs.message.Decree.{Kind, Taken, Attempt, Failed, Fate, Decree}
+use Rattle.mc_model.specs.message.Decree.{Kind, Taken, Attempt, Failed, Fate, Told, Decree}
 use Rattle.pdu_codec.specs.Text.{IsText}
 use Rattle.octet_fields.specs.Kinds.{Contents}
 use Rattle.fate_chain.specs.Bytes.{is_optional, party_fields, handling_fields, text_fields, message_of}
@@ -35,6 +35,7 @@ kind_seen (seen.Taken message) = Taken (message_seen message)
 kind_seen (seen.Attempt number) = Attempt number
 kind_seen (seen.Failed error) = Failed error
 kind_seen (seen.Fate final error) = Fate (final_of final) error
+kind_seen seen.Told = Told
 
 abbrev pub decree_seen : DecreeOctets → Decree
 decree_seen d = record { author = author_of d.author; moment = d.moment; kind = kind_seen d.kind }
@@ -61,3 +62,4 @@ HasTexts (seen.Taken message) = MessageHasTexts message
 HasTexts (seen.Attempt number) = Unit {0}
 HasTexts (seen.Failed error) = Unit {0}
 HasTexts (seen.Fate final error) = Unit {0}
+HasTexts seen.Told = Unit {0}

@@ -1,10 +1,10 @@
 //! Chains.
 
-ghost use Rattle.std.specs.Prelude.{◌≡◌, ◌<◌, ◌≤◌, ◌↔◌, ◌∷◌, [], Some, length, pred, reverse, slice_get, IfOk, IsErrOf, IsTrue, option_map};
+ghost use Rattle.std.specs.Prelude.{◌≡◌, ◌<◌, ◌≤◌, ◌↔◌, ◌∷◌, [], None, Some, length, pred, reverse, slice_get, IfOk, IsErrOf, IsTrue, option_map};
 ghost use Rattle.mc_model.specs.message.Ids.{node_of, incarnation_of};
 ghost use Rattle.mc_model.specs.message.Decree.{Taken};
 ghost use Rattle.mc_model.specs.message.Submission.{Submission as SubmissionValue};
-ghost use Rattle.mc_model.specs.message.Chain.{Chain as ChainValue, IsPermitted, MayExtend, taken_in, attempts_in, final_in, error_in};
+ghost use Rattle.mc_model.specs.message.Chain.{Chain as ChainValue, IsPermitted, MayExtend, taken_in, attempts_in, final_by, final_in, error_in, untold};
 ghost use Rattle.fate_chain.specs.Bytes.{chain_octets, read_chain, Fits, IsSpelled, Judges};
 ghost use Rattle.fate_chain.specs.Kinds.{final_of};
 ghost use Rattle.fate_chain.specs.Marks.{IsStandingOf};
@@ -63,7 +63,7 @@ impl Chain {
         ensures refused { IsErrOf result NotPermitted ↔ ((moment < message.expiry) × (message.schedule < message.expiry) → ⊥) }
         ensures no_other { IsErrOf result NotBytes → ⊥ }
     {
-        if !message.term().may_begin(moment) {
+        if !message.terms().may_begin(moment) {
             return Err(ChainFault::NotPermitted);
         }
         let author = Author {
@@ -89,10 +89,10 @@ impl Chain {
         self.id
     }
 
-    /// The place in which it stands: one less than the number of its decrees, 0 to 17.
+    /// The place in which it stands: one less than the number of its decrees, 0 to 18.
     pub fn place(&self) -> u8
         ensures place { result ≡ pred (length self.now.decrees) }
-        ensures range { result ≤ 17 }
+        ensures range { result ≤ 18 }
     {
         (self.decrees.list().len() - 1) as u8
     }
@@ -102,6 +102,28 @@ impl Chain {
         ensures { slice_get self.now.decrees 0 ≡ Some result.now }
     {
         self.decrees.list().last().unwrap()
+    }
+
+    /// The newest decree but Told: that of its fate, if it has one.
+    pub fn newest_untold(&self) -> &Decree
+        ensures newest { slice_get (untold self.now.decrees) 0 ≡ Some result.now }
+        ensures state { final_by result.now.kind None ≡ final_in self.now.decrees }
+    {
+        self.bounds();
+        let newest = self.newest();
+        match newest.kind {
+            Kind::Told => self.below_newest(),
+            _ => newest,
+        }
+    }
+
+    /// The decree before the newest one.
+    fn below_newest(&self) -> &Decree
+        requires { 2 ≤ length self.now.decrees }
+        ensures { slice_get self.now.decrees 1 ≡ Some result.now }
+    {
+        let decrees = self.decrees.list();
+        &decrees[decrees.len() - 2]
     }
 
     /// What was taken, by its first decree.
@@ -119,7 +141,7 @@ impl Chain {
     pub fn state(&self) -> State
         ensures { result ≡ state_of (final_in self.now.decrees) }
     {
-        match self.newest().kind {
+        match self.newest_untold().kind {
             Kind::Fate(last, _) => last.state(),
             _ => State::Enroute,
         }
@@ -129,7 +151,7 @@ impl Chain {
     pub fn fate(&self) -> Option<Final>
         ensures { option_map final_of result ≡ final_in self.now.decrees }
     {
-        match self.newest().kind {
+        match self.newest_untold().kind {
             Kind::Fate(last, _) => Some(last),
             _ => None,
         }
@@ -276,10 +298,10 @@ impl Chain {
         self.decrees.list()
     }
 
-    /// What a proof takes of it: it is a permitted one, stands at one of 18 places, and begins with what was taken. The call does nothing.
+    /// What a proof takes of it: it is a permitted one, stands at one of 19 places, and begins with what was taken. The call does nothing.
     pub fn bounds(&self)
         ensures permitted { IsPermitted self.now.id self.now.decrees }
-        ensures place { pred (length self.now.decrees) < 18 }
+        ensures place { pred (length self.now.decrees) < 19 }
         ensures taken { (taken : SubmissionValue) × (taken_in self.now.decrees ≡ Some taken) }
     {
         let _id = self.id;

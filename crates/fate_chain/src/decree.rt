@@ -118,6 +118,8 @@ pub enum Kind {
     Failed(ErrorCode),
     /// The message has this final state.
     Fate(Final, ErrorCode),
+    /// The receipt on the final state is told.
+    Told,
 }
 
 impl Kind {
@@ -130,6 +132,7 @@ impl Kind {
             Kind::Attempt(number) => Ok(Kind::Attempt(*number)),
             Kind::Failed(error) => Ok(Kind::Failed(*error)),
             Kind::Fate(last, error) => Ok(Kind::Fate(*last, *error)),
+            Kind::Told => Ok(Kind::Told),
         }
     }
 
@@ -144,6 +147,7 @@ impl Kind {
             (Kind::Attempt(number), Kind::Attempt(attempt)) => number == attempt,
             (Kind::Failed(error), Kind::Failed(cause)) => error == cause,
             (Kind::Fate(last, error), Kind::Fate(fate, cause)) => last == fate && error == cause,
+            (Kind::Told, Kind::Told) => true,
             _ => false,
         }
     }
@@ -153,10 +157,11 @@ impl Kind {
         ensures { bare_kind result ≡ bare (kind_of self.now) }
     {
         match self {
-            Kind::Taken(message) => Act::Taken(message.submission().term()),
+            Kind::Taken(message) => Act::Taken(message.submission().terms()),
             Kind::Attempt(number) => Act::Attempt(*number),
             Kind::Failed(_) => Act::Failed,
             Kind::Fate(last, _) => Act::Fate(*last),
+            Kind::Told => Act::Told,
         }
     }
 }
@@ -216,7 +221,7 @@ impl Decree {
     {
         match self.kind {
             Kind::Taken(_) => 0,
-            Kind::Attempt(_) => before,
+            Kind::Attempt(_) | Kind::Told => before,
             Kind::Failed(error) | Kind::Fate(_, error) => error.number(),
         }
     }

@@ -28,14 +28,14 @@ pub fn format_at(octets: &[u8]) -> Result<(Format, &[u8]), Defect>
     }
 }
 
-/// The number of a kind of decree, 1 to 4.
+/// The number of a kind of decree: 1 to 5, in format 1 to 4.
 #[tactic(auto, unfolding(octet_fields::specs::Reading::content_at))]
-pub fn kind_at(octets: &[u8]) -> Result<(u8, &[u8]), Defect>
+pub fn kind_at(format: Format, octets: &[u8]) -> Result<(u8, &[u8]), Defect>
     ensures { IsRead (λ x. (x.0, x.1.now)) result
-        (content_at (Number One (is_between 1 4)) octets.now) }
+        (content_at (Number One (is_between 1 (bytes.most_kind format))) octets.now) }
 {
     let (kind, rest) = octet_at(octets)?;
-    if kind < 1 || kind > 4 {
+    if kind < 1 || kind > format.most_kind() {
         return Err(Defect::Unfit);
     }
     Ok((kind, rest))

@@ -15,6 +15,7 @@ mod reading;
 mod shared_decrees;
 mod shared_submission;
 mod submission;
+mod terms;
 mod writing;
 
 pub use chain::Chain;

@@ -14,9 +14,10 @@ use crate::fields::{
     error_at, incarnation_at, kind_at, message_text_at, moment_at, node_at, parameters_at, text_at,
 };
 use crate::format::Format;
-use crate::marks::{Act, Mark, Term};
+use crate::marks::{Act, Mark};
 use crate::shared_submission::SharedSubmission;
 use crate::submission::Submission;
+use crate::terms::Terms;
 use mc_types::Moment;
 use octet_fields::{Defect, octet_at};
 use pdu_codec::{AddressOctets, Text};
@@ -76,6 +77,7 @@ pub enum KindOctets<'a> {
     Attempt(u8),
     Failed(ErrorCode),
     Fate(Final, ErrorCode),
+    Told,
 }
 
 /// A decree.
@@ -186,7 +188,7 @@ fn decided_at(format: Format, kind: u8, octets: &[u8]) -> Result<(KindOctets<'_>
             let (error, rest) = read!(error_at(octets));
             Ok((KindOctets::Failed(error), rest))
         }
-        _ => {
+        4 => {
             let (code, rest) = octet_at(octets)?;
             let (error, rest) = read!(error_at(rest));
             let Some(last) = Final::of_code(code) else {
@@ -194,6 +196,7 @@ fn decided_at(format: Format, kind: u8, octets: &[u8]) -> Result<(KindOctets<'_>
             };
             Ok((KindOctets::Fate(last, error), rest))
         }
+        _ => Ok((KindOctets::Told, octets)),
     }
 }
 
@@ -203,7 +206,7 @@ pub fn decree_at(format: Format, octets: &[u8]) -> Result<(DecreeOctets<'_>, &[u
     ensures read { IsRead (λ x. (decree_seen x.0, x.1.now)) result (decree_at format octets.now) }
     ensures texts { IfOk result (λ x. HasTexts x.0.kind) }
 {
-    let (kind, rest) = kind_at(octets)?;
+    let (kind, rest) = kind_at(format, octets)?;
     let (node, rest) = read!(node_at(rest));
     let (incarnation, rest) = read!(incarnation_at(rest));
     let (moment, rest) = read!(moment_at(rest));
@@ -248,13 +251,15 @@ impl KindOctets<'_> {
         ensures { bare_kind result ≡ bare (kind_seen self.now) }
     {
         match self {
-            KindOctets::Taken(message) => Act::Taken(Term {
+            KindOctets::Taken(message) => Act::Taken(Terms {
                 schedule: message.handling.schedule,
                 expiry: message.handling.expiry,
+                registered_delivery: message.handling.registered_delivery,
             }),
             KindOctets::Attempt(number) => Act::Attempt(*number),
             KindOctets::Failed(_) => Act::Failed,
             KindOctets::Fate(last, _) => Act::Fate(*last),
+            KindOctets::Told => Act::Told,
         }
     }
 
@@ -270,6 +275,7 @@ impl KindOctets<'_> {
             KindOctets::Attempt(number) => Ok(Kind::Attempt(*number)),
             KindOctets::Failed(error) => Ok(Kind::Failed(*error)),
             KindOctets::Fate(last, error) => Ok(Kind::Fate(*last, *error)),
+            KindOctets::Told => Ok(Kind::Told),
         }
     }
 }

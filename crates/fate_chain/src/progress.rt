@@ -9,7 +9,8 @@ ghost use Rattle.fate_chain.specs.Marks.{bare_kind, IsMarkOf, IsProgressOf, IsSt
 ghost use Rattle.fate_chain.specs.declared.marks.Act.TheVariants as acts;
 
 use crate::decree::Decree;
-use crate::marks::{Act, Mark, Standing, Term};
+use crate::marks::{Act, Mark, Standing};
+use crate::terms::Terms;
 use mc_types::MsgId;
 
 /// How far decrees have come towards a permitted chain.
@@ -53,9 +54,10 @@ impl Progress {
 fn begun(id: MsgId, first: Mark) -> Progress
     ensures { (decree : DecreeValue) → IsMarkOf decree first → IsProgressOf id (decree ∷ []) result }
 {
-    match first_term(id, &first) {
-        Some(term) => Progress::Stands(Standing {
-            term,
+    match first_terms(id, &first) {
+        Some(terms) => Progress::Stands(Standing {
+            terms,
+            home: id.node(),
             attempts: 0,
             newest: first,
         }),
@@ -63,20 +65,20 @@ fn begun(id: MsgId, first: Mark) -> Progress
     }
 }
 
-/// The term of what is taken by a decree of this mark; none if it may not begin the chain of the id.
-fn first_term(id: MsgId, first: &Mark) -> Option<Term>
+/// The terms of what is taken by a decree of this mark; none if it may not begin the chain of the id.
+fn first_terms(id: MsgId, first: &Mark) -> Option<Terms>
     ensures { MatchOption result
         (MayBegin id (author_of first.now.author) first.now.moment (bare_kind first.now.act) → ⊥)
-        (λ term. MayBegin id (author_of first.now.author) first.now.moment (bare_kind first.now.act)
-        × (first.now.act ≡ acts.Taken term)) }
+        (λ terms. MayBegin id (author_of first.now.author) first.now.moment (bare_kind first.now.act)
+        × (first.now.act ≡ acts.Taken terms)) }
 {
-    let Act::Taken(term) = &first.act else {
+    let Act::Taken(terms) = &first.act else {
         return None;
     };
     if first.author.node != id.node() || first.author.incarnation != id.incarnation() {
         return None;
     }
-    term.may_begin(first.moment).then_some(*term)
+    terms.may_begin(first.moment).then_some(*terms)
 }
 
 /// With one more decree after a permitted chain.

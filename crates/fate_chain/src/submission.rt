@@ -1,14 +1,15 @@
 //! What was taken.
 
 ghost use Rattle.std.specs.Prelude.{◌≡◌, ◌↔◌, IsTrue};
-ghost use Rattle.mc_model.specs.node.Phases.{AsksReceipt};
+ghost use Rattle.mc_model.specs.message.Receipts.{AsksReceipt};
 ghost use Rattle.fate_chain.specs.Kinds.{final_of};
+ghost use Rattle.fate_chain.specs.Marks.{terms_of};
 ghost use Rattle.fate_chain.specs.Submissions.{address_of};
 ghost use Rattle.fate_chain.specs.Same.{SameHandling, SameParties};
 
 use crate::content::Content;
 use crate::decree::Final;
-use crate::marks::Term;
+use crate::terms::Terms;
 use mc_types::Moment;
 use pdu_codec::{Address, ServiceType, SystemId, Tlvs};
 use std::marker::Model;
@@ -61,14 +62,14 @@ impl Model for Submission {
 }
 
 impl Submission {
-    /// The moments between which it is tried.
-    pub(crate) fn term(&self) -> Term
-        ensures schedule { result.schedule ≡ self.now.schedule }
-        ensures expiry { result.expiry ≡ self.now.expiry }
+    /// The terms on which it is taken.
+    pub(crate) fn terms(&self) -> Terms
+        ensures { result ≡ terms_of self.now }
     {
-        Term {
+        Terms {
             schedule: self.schedule,
             expiry: self.expiry,
+            registered_delivery: self.registered_delivery,
         }
     }
 
@@ -76,11 +77,7 @@ impl Submission {
     pub fn asks_receipt(&self, last: Final) -> bool
         ensures { IsTrue result ↔ AsksReceipt (final_of last) self.now }
     {
-        match self.registered_delivery % 4 {
-            1 => true,
-            2 => last != Final::Delivered,
-            _ => false,
-        }
+        self.terms().asks_receipt(last)
     }
 
     /// Whether it is the same as the other.

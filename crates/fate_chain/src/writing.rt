@@ -125,6 +125,7 @@ fn put_kind(out: &mut Vec<u8>, kind: &Kind) -> Result<(), AllocError>
             out.push(last.state().code())?;
             put_octets(out, &error.number().to_be_bytes())
         }
+        Kind::Told => Ok(()),
     }
 }
 
@@ -137,13 +138,14 @@ fn code_of(kind: &Kind) -> u8
         Kind::Attempt(_) => 2,
         Kind::Failed(_) => 3,
         Kind::Fate(_, _) => 4,
+        Kind::Told => 5,
     }
 }
 
 /// The number of a kind, an author and a moment.
 fn put_head(out: &mut Vec<u8>, kind: u8, author: Author, moment: Moment) -> Result<(), AllocError>
     ensures ok { OnOk result (out.new.items ≡ out.old.items
-        ++ spellings head_fields (kind, (author.node, (author.incarnation, (moment, tt))))) }
+        ++ spellings (head_fields Second) (kind, (author.node, (author.incarnation, (moment, tt))))) }
     ensures node { OnOk result (IsNode author.node) }
     ensures incarnation { OnOk result (IsIncarnation author.incarnation) }
     ensures moment { OnOk result (IsMoment moment) }

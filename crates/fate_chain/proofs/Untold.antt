@@ -1,0 +1,78 @@
+-- The newest decree of a chain but Told.
+use Rattle.std.proofs.Common.{◌≡◌, ℕ, ◌≤◌, List, [], ◌∷◌, length, Option, Some, None, slice_get, refl, sym, ap, ◌∙◌, arith}
+use Rattle.mc_model.specs.message.Decree.{Decree, Kind, Final, Taken, Attempt, Failed, Fate, Told}
+use Rattle.mc_model.specs.message.Chain.{IsPermitted, final_by, final_in, untold, untold_by}
+use Rattle.mc_parts.proofs.Tellings.{told_stands}
+use Rattle.fate_chain.specs.Kinds.{kind_of}
+use Rattle.fate_chain.specs.declared.decree.Kind.{Kind as Decided}
+use Rattle.fate_chain.specs.declared.decree.Kind.TheVariants as decided
+
+-- ---- if it is no Told, it is the newest one
+
+open_kind : (kind : Kind) (whole older : List Decree) → (kind ≡ Told → ⊥) → untold_by kind whole older ≡ whole
+open_kind (Taken message) whole older not = refl
+open_kind (Attempt number) whole older not = refl
+open_kind (Failed error) whole older not = refl
+open_kind (Fate final error) whole older not = refl
+open_kind Told whole older not = absurd (not refl)
+
+open_state : (kind : Kind) (older : Option Final) → (kind ≡ Told → ⊥) → final_by kind None ≡ final_by kind older
+open_state (Taken message) older not = refl
+open_state (Attempt number) older not = refl
+open_state (Failed error) older not = refl
+open_state (Fate final error) older not = refl
+open_state Told older not = absurd (not refl)
+
+kept_not_told : (kind : Decided) → (kind ≡ decided.Told → ⊥) → kind_of kind ≡ Told → ⊥
+kept_not_told (decided.Taken message) not is = cc
+kept_not_told (decided.Attempt number) not is = cc
+kept_not_told (decided.Failed error) not is = cc
+kept_not_told (decided.Fate final error) not is = cc
+kept_not_told decided.Told not is = not refl
+
+pub record IsNewestUntold (decrees : List Decree) (newest : Decree) : Type 0 where
+  pub first : slice_get (untold decrees) 0 ≡ Some newest
+  pub state : final_by newest.kind None ≡ final_in decrees
+
+newest_open : (decrees : List Decree) (newest : Decree) → slice_get decrees 0 ≡ Some newest → (newest.kind ≡ Told → ⊥) → IsNewestUntold decrees newest
+newest_open [] newest is not = absurd cc
+newest_open (first ∷ older) newest is not =
+    let same : first ≡ newest = cc in
+    let not_told : first.kind ≡ Told → ⊥ = λ told. not (sym (ap (λ (d : Decree). d.kind) same) ∙ told) in
+    record {
+      first = ap (λ (ds : List Decree). slice_get ds 0) (open_kind first.kind (first ∷ older) older not_told) ∙ is;
+      state = ap (λ (d : Decree). final_by d.kind None) (sym same) ∙ open_state first.kind (final_in older) not_told;
+    }
+
+pub newest_is_open : (decrees : List Decree) (newest : Decree) (kind : Decided) → slice_get decrees 0 ≡ Some newest → kind_of kind ≡ newest.kind →
+    (kind ≡ decided.Told → ⊥) →
+    IsNewestUntold decrees newest
+newest_is_open decrees newest kind is same not = newest_open decrees newest is (λ told. kept_not_told kind not (same ∙ told))
+
+-- ---- below a Told stands a fate
+
+pub told_has_older : (id : ℕ) (decrees : List Decree) (newest : Decree) → IsPermitted id decrees → slice_get decrees 0 ≡ Some newest →
+    newest.kind ≡ Told →
+    2 ≤ length decrees
+told_has_older id [] newest permitted is told = absurd permitted
+told_has_older id (first ∷ older) newest permitted is told =
+    let same : first ≡ newest = cc in
+    let stands = told_stands id first older permitted (ap (λ (d : Decree). d.kind) same ∙ told) in
+    omega (arith, ap length stands.behind)
+
+pub newest_is_below : (id : ℕ) (decrees : List Decree) (newest below : Decree) → IsPermitted id decrees → slice_get decrees 0 ≡ Some newest →
+    newest.kind ≡ Told → slice_get decrees 1 ≡ Some below →
+    IsNewestUntold decrees below
+newest_is_below id [] newest below permitted is told second = absurd permitted
+newest_is_below id (first ∷ older) newest below permitted is told second =
+    let same : first ≡ newest = cc in
+    let ends = ap (λ (d : Decree). d.kind) same ∙ told in
+    let stands = told_stands id first older permitted ends in
+    let head : Some stands.fate ≡ Some below = sym (ap (λ (ds : List Decree). slice_get ds 0) stands.behind) ∙ second in
+    let fate : stands.fate ≡ below = cc in
+    let kind_is = sym (ap (λ (d : Decree). d.kind) fate) ∙ stands.ends in
+    record {
+      first = ap (λ (kind : Kind). slice_get (untold_by kind (first ∷ older) older) 0) ends ∙ second;
+      state = ap (λ (kind : Kind). final_by kind None) kind_is ∙ sym
+          (ap (λ (kind : Kind). final_by kind (final_in older)) ends ∙ ap final_in stands.behind ∙ ap (λ (kind : Kind). final_by kind (final_in stands.oldest)) stands.ends);
+    }
