@@ -2,19 +2,13 @@
 use Rattle.std.proofs.Common.{◌≡◌, ℕ, ◌≤◌, List, [], ◌∷◌, length, Option, Some, None, slice_get, refl, sym, ap, ◌∙◌, arith}
 use Rattle.mc_model.specs.message.Decree.{Decree, Kind, Final, Taken, Attempt, Failed, Fate, Told}
 use Rattle.mc_model.specs.message.Chain.{IsPermitted, final_by, final_in, untold, untold_by}
+use Rattle.mc_parts.proofs.Fates.{open_kind}
 use Rattle.mc_parts.proofs.Tellings.{told_stands}
 use Rattle.fate_chain.specs.Kinds.{kind_of}
 use Rattle.fate_chain.specs.declared.decree.Kind.{Kind as Decided}
 use Rattle.fate_chain.specs.declared.decree.Kind.TheVariants as decided
 
 -- ---- if it is no Told, it is the newest one
-
-open_kind : (kind : Kind) (whole older : List Decree) → (kind ≡ Told → ⊥) → untold_by kind whole older ≡ whole
-open_kind (Taken message) whole older not = refl
-open_kind (Attempt number) whole older not = refl
-open_kind (Failed error) whole older not = refl
-open_kind (Fate final error) whole older not = refl
-open_kind Told whole older not = absurd (not refl)
 
 open_state : (kind : Kind) (older : Option Final) → (kind ≡ Told → ⊥) → final_by kind None ≡ final_by kind older
 open_state (Taken message) older not = refl
@@ -76,3 +70,43 @@ newest_is_below id (first ∷ older) newest below permitted is told second =
       state = ap (λ (kind : Kind). final_by kind None) kind_is ∙ sym
           (ap (λ (kind : Kind). final_by kind (final_in older)) ends ∙ ap final_in stands.behind ∙ ap (λ (kind : Kind). final_by kind (final_in stands.oldest)) stands.ends);
     }
+
+-- ---- a permitted chain of a message that has a final state ends in its fate, told or not
+
+pub record EndsInFate (decrees : List Decree) (final : Final) : Type 0 where
+  pub fate : Decree
+  pub older : List Decree
+  pub error : ℕ
+  pub chain_is : untold decrees ≡ fate ∷ older
+  pub kind_is : fate.kind ≡ Fate final error
+
+module _ (id : ℕ) (newest : Decree) (older : List Decree) (final : Final) (permitted : IsPermitted id (newest ∷ older)) where
+  ends_by : (kind : Kind) → newest.kind ≡ kind → final_by kind (final_in older) ≡ Some final → EndsInFate (newest ∷ older) final
+  ends_by (Taken message) is state = cc
+  ends_by (Attempt number) is state = cc
+  ends_by (Failed error) is state = cc
+  ends_by (Fate last error) is state =
+      let same : last ≡ final = cc in
+      record {
+        fate = newest;
+        older = older;
+        error = error;
+        chain_is = ap (λ (kind : Kind). untold_by kind (newest ∷ older) older) is;
+        kind_is = is ∙ ap (λ (f : Final). Fate f error) same;
+      }
+  ends_by Told is state =
+      let stands = told_stands id newest older permitted is in
+      let ended : Some stands.final ≡ Some final =
+      sym (ap final_in stands.behind ∙ ap (λ (kind : Kind). final_by kind (final_in stands.oldest)) stands.ends) ∙ state in
+      let same : stands.final ≡ final = cc in
+      record {
+        fate = stands.fate;
+        older = stands.oldest;
+        error = stands.error;
+        chain_is = ap (λ (kind : Kind). untold_by kind (newest ∷ older) older) is ∙ stands.behind;
+        kind_is = stands.ends ∙ ap (λ (f : Final). Fate f stands.error) same;
+      }
+
+pub ends_in_fate : (id : ℕ) (decrees : List Decree) (final : Final) → IsPermitted id decrees → final_in decrees ≡ Some final → EndsInFate decrees final
+ends_in_fate id [] final permitted is = absurd permitted
+ends_in_fate id (newest ∷ older) final permitted is = ends_by id newest older final permitted newest.kind refl is

@@ -17,7 +17,7 @@ use std::marker::Model;
 use synod_acceptor::{Author, Chain, MOST_DECREES, Packet, Report};
 
 /// What a node proposes on one message: the round that runs, if any, and the highest round that it saw at each place of the chain.
-/// All that is handed to it is of that message, and a chain has 18 places at most.
+/// All that is handed to it is of that message, and a chain has 19 places at most.
 #[derive(Drop)]
 pub struct Proposer {
     me: Author,
