@@ -1,8 +1,8 @@
 #!/usr/bin/env python3
 """Prints what the tests of chains expect, worked out here from the written format, apart from the program.
 
-First the octets of a chain of one decree in format 2, in which chains are written, and in format 1, which earlier programs wrote, and those of a
-chain of 18 decrees. Then what becomes of each of the first two with one of its octets changed: a letter for each place and each of the octets 00,
+First the octets of a chain of one decree in format 2, in which chains are written, and in format 1, which earlier programs wrote, those of a
+chain of 18 decrees, and those of a fate and of its Told. Then what becomes of each of the first two with one of its octets changed: a letter for each place and each of the octets 00,
 7f, 80 and ff, which is k if it still is a permitted chain, p if it is a chain that is not permitted, and b if it is no chain's octets.
 
     python3 bench/chain_octets.py
@@ -16,6 +16,8 @@ FINAL_STATES = {2: "DELIVERED", 3: "EXPIRED", 4: "DELETED", 5: "UNDELIVERABLE", 
 CHAIN = Struct(">BQH")
 # of each format: how many octets the length of a text has, and the text at most
 TEXTS = {1: (1, 254), 2: (2, 4096)}
+# and how many kinds of decrees
+KINDS = {1: 4, 2: 5}
 HEAD = Struct(">BBHI")
 
 
@@ -45,6 +47,16 @@ def tried_eight_times():
         begun = failed + 60 * number
     decrees.append(HEAD.pack(4, 9, 9999, begun) + bytes([5]) + (999).to_bytes(2, "big"))
     return decrees
+
+
+def deleted():
+    """The message is deleted by the node that took it, with the error 999."""
+    return HEAD.pack(4, 1, 1, TAKEN) + bytes([4]) + (999).to_bytes(2, "big")
+
+
+def told():
+    """Its third incarnation tells the receipt seven seconds later."""
+    return HEAD.pack(5, 1, 3, TAKEN + 7)
 
 
 def chain(form, decrees):
@@ -108,7 +120,7 @@ class Reader:
         return schedule, expiry
 
     def decree(self, form):
-        kind = self.number(1, range(1, 5))
+        kind = self.number(1, range(1, KINDS[form] + 1))
         node, incarnation = self.number(1, range(1, 10)), self.number(2, range(1, 10_000))
         moment = self.number(4, MOMENTS)
         term = None
@@ -118,7 +130,7 @@ class Reader:
             self.take(1)
         elif kind == 3:
             self.number(2, range(1_000))
-        else:
+        elif kind == 4:
             self.number(1, FINAL_STATES)
             self.number(2, range(1_000))
         return node, incarnation, moment, term
@@ -160,6 +172,9 @@ decrees = tried_eight_times()
 print("TRIED_CHAIN,", len(chain(2, decrees)), "octets")
 rows(CHAIN.pack(2, 1_000_100_001, len(decrees)))
 for decree in decrees:
+    rows(decree)
+for name, decree in {"FATE": deleted(), "TELLING": told()}.items():
+    print(f"{name},", len(decree), "octets")
     rows(decree)
 for name, whole in chains.items():
     print(f"{name}, changed, a word a place")

@@ -1,9 +1,9 @@
 -- Of a chain at a moment one decree is due at most.
 use Rattle.std.proofs.Common.{◌≡◌, refl, sym, ap, subst, ◌∙◌, ℕ, ◌+◌, Bool, true, List, [], ◌∷◌, slice_get, Option, Some, None, arith}
 use Rattle.mc_model.specs.message.Submission.{Submission}
-use Rattle.mc_model.specs.message.Decree.{Attempt, Author, Decree, Failed, Fate, Kind, Taken}
+use Rattle.mc_model.specs.message.Decree.{Attempt, Author, Decree, Failed, Fate, Kind, Taken, Told}
 use Rattle.mc_model.specs.message.Neighbours.{MayFollow}
-use Rattle.mc_model.specs.message.Chain.{MayExtend, attempts_in, taken_in}
+use Rattle.mc_model.specs.message.Chain.{MayExtend, attempts_in, home_in, taken_in}
 use Rattle.fate_chain.specs.Kinds.{kind_of}
 use Rattle.fate_chain.specs.declared.decree.Kind.{Kind as Decided}
 use Rattle.fate_chain.specs.declared.decree.Kind.TheVariants as decided
@@ -17,21 +17,23 @@ next_number attempts (Taken message) = 1
 next_number attempts (Attempt number) = attempts + 1
 next_number attempts (Failed error) = attempts + 1
 next_number attempts (Fate final error) = attempts + 1
+next_number attempts Told = attempts + 1
 
-number_follows : (message : Submission) (attempts : ℕ) (old : Author) (before : ℕ) (kind : Kind) (author : Author) (now number : ℕ) →
-    IsIdleKind kind → MayFollow message attempts old before kind author now (Attempt number) →
+number_follows : (message : Submission) (home attempts : ℕ) (old : Author) (before : ℕ) (kind : Kind) (author : Author) (now number : ℕ) →
+    IsIdleKind kind → MayFollow message home attempts old before kind author now (Attempt number) →
     number ≡ next_number attempts kind
-number_follows message attempts old before (Taken taken) author now number idle may = may.first
-number_follows message attempts old before (Attempt tried) author now number idle may = absurd idle
-number_follows message attempts old before (Failed error) author now number idle may = may.next
-number_follows message attempts old before (Fate final error) author now number idle may = absurd idle
+number_follows message home attempts old before (Taken taken) author now number idle may = may.first
+number_follows message home attempts old before (Attempt tried) author now number idle may = absurd idle
+number_follows message home attempts old before (Failed error) author now number idle may = may.next
+number_follows message home attempts old before (Fate final error) author now number idle may = absurd idle
+number_follows message home attempts old before Told author now number idle may = absurd idle
 
 number_extends : (message : Option Submission) (newest : Decree) (older : List Decree) (author : Author) (now number : ℕ) →
     IsIdleKind newest.kind → MayExtend message (newest ∷ older) (record { author = author; moment = now; kind = Attempt number }) →
     number ≡ next_number (attempts_in (newest ∷ older)) newest.kind
 number_extends None newest older author now number idle may = absurd may
 number_extends (Some message) newest older author now number idle may =
-    number_follows message (attempts_in (newest ∷ older)) newest.author newest.moment newest.kind author now number idle may.1
+    number_follows message (home_in (newest ∷ older)) (attempts_in (newest ∷ older)) newest.author newest.moment newest.kind author now number idle may.1
 
 pub number_of_due : (decrees : List Decree) (newest : Decree) (now number : ℕ) → slice_get decrees 0 ≡ Some newest →
     MayBeDue decrees now (dues.Attempt number) →
@@ -51,6 +53,7 @@ number_after attempts (decided.Taken message) other = absurd (other message refl
 number_after attempts (decided.Attempt number) other = refl
 number_after attempts (decided.Failed error) other = refl
 number_after attempts (decided.Fate final error) other = refl
+number_after attempts decided.Told other = refl
 
 -- nothing is due if neither an end of the message nor its next attempt is
 pub none_due : (decrees : List Decree) (now : ℕ) (up : Bool) (next : ℕ) →

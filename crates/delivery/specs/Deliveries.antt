@@ -1,7 +1,7 @@
 -- The deliver_sm of an attempt (SMPP 3.4, 4.6.1).
 use Rattle.std.specs.Prelude.{◌≡◌, ℕ, List, [], ◌∷◌, Some, bit_and, if◌then◌else◌}
 use Rattle.mc_model.specs.message.Chain.{taken_in}
-use Rattle.mc_model.specs.message.Decree.{Attempt, Decree, Failed, Fate, Kind, Taken}
+use Rattle.mc_model.specs.message.Decree.{Attempt, Decree, Failed, Fate, Kind, Taken, Told}
 use Rattle.mc_model.specs.message.Submission.{Address as Party, Submission}
 use Rattle.fate_chain.specs.Content.{is_long}
 use Rattle.pdu_tables.specs.TagCodes.{tag_code}
@@ -17,6 +17,7 @@ IsAttempt (Taken message) = ⊥
 IsAttempt (Attempt number) = Unit {0}
 IsAttempt (Failed error) = ⊥
 IsAttempt (Fate final error) = ⊥
+IsAttempt Told = ⊥
 
 abbrev pub EndsInAttempt : List Decree → Type 0
 EndsInAttempt [] = ⊥

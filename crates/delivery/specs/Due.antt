@@ -1,6 +1,6 @@
 -- What is due for a message that waits for its next attempt (own; the states are those of SMPP 3.4, 5.2.28).
 use Rattle.std.specs.Prelude.{◌≡◌, ℕ, ◌<◌, Bool, true, List, ◌∷◌, Option, Some, None}
-use Rattle.mc_model.specs.message.Decree.{Attempt, Author, Decree, Expired, Failed, Fate, Kind, Taken, Undeliverable}
+use Rattle.mc_model.specs.message.Decree.{Attempt, Author, Decree, Expired, Failed, Fate, Kind, Taken, Told, Undeliverable}
 use Rattle.mc_model.specs.message.Chain.{MayExtend, error_in, taken_in}
 use Rattle.delivery.specs.declared.due_decree.DueDecree.{DueDecree}
 use Rattle.delivery.specs.declared.due_decree.DueDecree.TheVariants as dues
@@ -22,6 +22,7 @@ IsIdleKind (Taken message) = Unit {0}
 IsIdleKind (Attempt number) = ⊥
 IsIdleKind (Failed error) = Unit {0}
 IsIdleKind (Fate final error) = ⊥
+IsIdleKind Told = ⊥
 
 -- and the decree may follow now
 pub record MayBeDue (decrees : List Decree) (now : ℕ) (due : DueDecree) : Type 0 where

@@ -5,7 +5,7 @@ use Rattle.std.specs.Option.{option_map}
 use Rattle.mc_model.specs.message.Ids.{most_serial}
 use Rattle.mc_model.specs.message.Submission.{Submission}
 use Rattle.mc_model.specs.message.Decree.{Decree}
-use Rattle.mc_model.specs.message.Chain.{Chain, final_in, error_in}
+use Rattle.mc_model.specs.message.Chain.{Chain, final_in, error_in, untold}
 use Rattle.pdu_tables.specs.declared.status.Status.{Status}
 use Rattle.pdu_tables.specs.declared.status.Status.TheVariants as statuses
 use Rattle.pdu_tables.specs.TagCodes.{tag_code}
@@ -98,10 +98,13 @@ submission_of account target times message = record {
 
 -- ---- a query_sm
 
--- the moment of a final state
+-- the moment of a final state, which is that of its fate, told or not
+abbrev pub ended_at : List Decree → Option ℕ
+ended_at [] = None
+ended_at (newest ∷ older) = option_map (λ final. newest.moment) (final_in (newest ∷ older))
+
 abbrev pub final_moment : List Decree → Option ℕ
-final_moment [] = None
-final_moment (newest ∷ older) = option_map (λ final. newest.moment) (final_in (newest ∷ older))
+final_moment decrees = ended_at (untold decrees)
 
 -- the state of a chain, the moment of a final one, and the error, cut to what error_code has room for (own)
 abbrev pub shown : Chain → Answer

@@ -19,7 +19,7 @@ pub fn shown(chain: &Chain) -> Answer
 fn final_moment(chain: &Chain) -> Option<Moment>
     ensures { result ≡ final_moment chain.now.decrees }
 {
-    let newest = chain.newest();
+    let newest = chain.newest_untold();
     match newest.kind {
         Kind::Fate(..) => Some(newest.moment),
         _ => None,

@@ -1,10 +1,10 @@
 -- The deliver_sm of a delivery receipt, and of which chains there is one (SMPP 3.4, 4.6.1, 5.2.17 and appendix B).
 use Rattle.std.specs.Prelude.{◌≡◌, ℕ, List, [], ◌∷◌, ◌++◌, slice_get, reverse, Some}
 use Rattle.std.specs.Fmt.{decimal}
-use Rattle.mc_model.specs.message.Chain.{Chain, final_in, taken_in}
+use Rattle.mc_model.specs.message.Chain.{Chain, final_in, taken_in, untold}
 use Rattle.mc_model.specs.message.Decree.{Decree, Fate, Final}
 use Rattle.mc_model.specs.message.Submission.{Address as Party, Submission}
-use Rattle.mc_model.specs.node.Phases.{AsksReceipt}
+use Rattle.mc_model.specs.message.Receipts.{AsksReceipt}
 use Rattle.fate_chain.specs.States.{final_code}
 use Rattle.pdu_fields.specs.declared.address.Address.{Address}
 use Rattle.pdu_bodies.specs.declared.pdu.Body.TheVariants.{DeliverSm}
@@ -12,12 +12,12 @@ use Rattle.pdu_bodies.specs.declared.pdu.Message.{Message}
 use Rattle.pdu_bodies.specs.declared.pdu.Pdu.{Pdu}
 use Rattle.receipts.specs.Texts.{Report, receipt_text}
 
--- what a chain that ends in a fate reports
+-- what a chain that ends in a fate, told or not, reports: it ended with the fate
 pub record Reports (chain : Chain) (report : Report) : Type 0 where
   pub oldest : Decree
   pub newest : Decree
   pub first : slice_get (reverse chain.decrees) 0 ≡ Some oldest
-  pub last : slice_get chain.decrees 0 ≡ Some newest
+  pub last : slice_get (untold chain.decrees) 0 ≡ Some newest
   pub id : report.id ≡ chain.id
   pub taken : taken_in chain.decrees ≡ Some report.taken
   pub began : report.began ≡ oldest.moment

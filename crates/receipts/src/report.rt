@@ -1,7 +1,7 @@
 //! What a receipt tells.
 
 ghost use Rattle.std.specs.Prelude.{◌≡◌, ◌↔◌, IfOk, IsErrOf};
-ghost use Rattle.mc_model.specs.node.Phases.{AsksReceipt};
+ghost use Rattle.mc_model.specs.message.Receipts.{AsksReceipt};
 ghost use Rattle.receipts.specs.Receipts.{HasFate, IsAsked, Reports};
 ghost use Rattle.receipts.specs.Told.{report_of};
 ghost use Rattle.receipts.specs.declared.fault.ReceiptFault.TheVariants.{Memory, NoFate, NotAsked};
@@ -30,7 +30,7 @@ impl Report<'_> {
         ensures not_asked { IsErrOf result NotAsked ↔ HasFate chain.now.decrees × (IsAsked chain.now.decrees → ⊥) }
         ensures memory { IsErrOf result Memory → ⊥ }
     {
-        let newest = chain.newest();
+        let newest = chain.newest_untold();
         let Kind::Fate(last, error) = newest.kind else {
             return Err(ReceiptFault::NoFate);
         };
