@@ -5,7 +5,7 @@ use Rattle.std.specs.Option.{is_none, option_map, option_or}
 use Rattle.std.proofs.lemmas.Bool.{true≢false}
 use Rattle.std.proofs.lemmas.Bool.Decides.{nat_tests}
 use Rattle.mc_model.specs.message.Submission.{Submission}
-use Rattle.mc_model.specs.message.Decree.{Attempt, Decree, Expired, Failed, Fate, Kind, Taken}
+use Rattle.mc_model.specs.message.Decree.{Attempt, Decree, Expired, Failed, Fate, Kind, Taken, Told}
 use Rattle.mc_model.specs.message.Neighbours.{most_attempts, retry_delay}
 use Rattle.mc_model.specs.message.Chain.{attempts_in, taken_in}
 use Rattle.mc_model.specs.node.FirstRule.{Close, Delete, Expire, GiveUp, Lose, Try, Undeliver}
@@ -115,6 +115,7 @@ module _ (s : Standpoint) (a : Attempted) (taken : Submission) (newest : Decree)
       failed_still error up (nat_le taken.expiry at_first) (attempts == most_attempts) (nat_lt attempts most_attempts) (nat_le next at_first)
       refl refl refl refl none below
   answer_still up (Fate final error) none below = nothing_tried up
+  answer_still up Told none below = nothing_tried up
 
   own_still : (up : List ℕ → Bool) → own_rule first a false up newest older taken ≡ None →
       s.clock < waits_until (up taken.target) taken newest older newest.kind → own_rule s a false up newest older taken ≡ None

@@ -6,9 +6,9 @@ use Rattle.std.proofs.lemmas.Bool.{true≢false}
 use Rattle.std.proofs.lemmas.Bool.Decides.{Decides-and, Decides-eqb, Decides-ltb, nat_tests}
 use Rattle.std.specs.Bool.{Decides}
 use Rattle.mc_model.specs.message.Submission.{Submission}
-use Rattle.mc_model.specs.message.Decree.{Attempt, Author, Decree, Expired, Failed, Fate, Kind, Taken}
+use Rattle.mc_model.specs.message.Decree.{Attempt, Author, Decree, Expired, Failed, Fate, Kind, Taken, Told}
 use Rattle.mc_model.specs.message.Neighbours.{MayFollow, most_attempts, retry_delay}
-use Rattle.mc_model.specs.message.Chain.{MayExtend, attempts_in, error_by, error_in, taken_in}
+use Rattle.mc_model.specs.message.Chain.{MayExtend, attempts_in, error_by, error_in, home_in, taken_in}
 use Rattle.mc_model.specs.node.FirstRule.{Expire, Try, Undeliver}
 use Rattle.node_model.specs.Starts.{is_idle, moment_behind, start_behind}
 use Rattle.node_model.specs.Rules.{Fitting, fitting, if_so, is_attempt_by, tried, undelivered}
@@ -31,6 +31,9 @@ module _ (s : Standpoint) (taken : Submission) (newest : Decree) (older : List D
   abbrev now : ℕ
   now = moment_behind (kept_of s) newest
 
+  abbrev home : ℕ
+  home = home_in (newest ∷ older)
+
   abbrev attempts : ℕ
   attempts = attempts_in (newest ∷ older)
 
@@ -38,7 +41,7 @@ module _ (s : Standpoint) (taken : Submission) (newest : Decree) (older : List D
   error = error_in (newest ∷ older)
 
   abbrev Follows : Kind → DueDecree → Type 0
-  Follows kind due = (author : Author) → MayFollow taken attempts newest.author newest.moment kind author now (kind_due error due)
+  Follows kind due = (author : Author) → MayFollow taken home attempts newest.author newest.moment kind author now (kind_due error due)
 
   abbrev May : DueDecree → Type 0
   May due = MayBeDue (newest ∷ older) now due
@@ -55,7 +58,7 @@ module _ (s : Standpoint) (taken : Submission) (newest : Decree) (older : List D
     idle = subst IsIdleKind (sym is) idle;
     may = λ author. subst (λ (t : Option Submission). MayExtend t (newest ∷ older)
         (record { author = author; moment = now; kind = kind_due error due })) (sym message)
-        (later, subst (λ (k : Kind). MayFollow taken attempts newest.author newest.moment k author now (kind_due error due)) (sym is) (follows author));
+        (later, subst (λ (k : Kind). MayFollow taken home attempts newest.author newest.moment k author now (kind_due error due)) (sym is) (follows author));
   }
 
   idle_of : (kind : Kind) → newest.kind ≡ kind → (due : DueDecree) → May due → IsIdleKind kind
@@ -67,7 +70,7 @@ module _ (s : Standpoint) (taken : Submission) (newest : Decree) (older : List D
   follows_of kind is due may author =
       let extends = subst (λ (t : Option Submission). MayExtend t (newest ∷ older)
       (record { author = author; moment = now; kind = kind_due error due })) message (may.may author) in
-      subst (λ (k : Kind). MayFollow taken attempts newest.author newest.moment k author now (kind_due error due)) is extends.1
+      subst (λ (k : Kind). MayFollow taken home attempts newest.author newest.moment k author now (kind_due error due)) is extends.1
 
   -- ---- the rules in their order, by this kind
 
@@ -177,6 +180,8 @@ module _ (s : Standpoint) (taken : Submission) (newest : Decree) (older : List D
   due_is (Attempt number) is (Some due) it = absurd (idle_of (Attempt number) is due it.fits.0)
   due_is (Fate final cause) is None none = sym (ap (fitting Try) (nothing_either up))
   due_is (Fate final cause) is (Some due) it = absurd (idle_of (Fate final cause) is due it.fits.0)
+  due_is Told is None none = sym (ap (fitting Try) (nothing_either up))
+  due_is Told is (Some due) it = absurd (idle_of Told is due it.fits.0)
 
 -- ---- behind a chain that does not end in an attempt of the node, and whose message is not to be deleted
 

@@ -108,5 +108,5 @@ IsBehind s (newest ∷ older) due chain = chain ≡ (start_for s newest older du
 
 -- it may follow an attempt, whatever the message
 abbrev pub MayEnd : Standpoint → Decree → Due → Type 0
-MayEnd s newest due = (message : Submission) (attempts error : ℕ) →
-    MayFollow message attempts newest.author newest.moment newest.kind (author_of s.author) (moment_behind (kept_of s) newest) (kind_due error due)
+MayEnd s newest due = (message : Submission) (home attempts error : ℕ) →
+    MayFollow message home attempts newest.author newest.moment newest.kind (author_of s.author) (moment_behind (kept_of s) newest) (kind_due error due)

@@ -1,7 +1,7 @@
 -- Until when no rule of a tick fits what is known, while no cancel_sm waits that matches (own).
 use Rattle.std.specs.Prelude.{◌≡◌, ℕ, ◌+◌, ◌*◌, min, Bool, false, is_some, List, [], ◌∷◌, Option, Some, None, if◌then◌else◌}
 use Rattle.mc_model.specs.message.Submission.{Submission}
-use Rattle.mc_model.specs.message.Decree.{Attempt, Decree, Failed, Fate, Kind, Taken}
+use Rattle.mc_model.specs.message.Decree.{Attempt, Decree, Failed, Fate, Kind, Taken, Told}
 use Rattle.mc_model.specs.message.Neighbours.{retry_delay}
 use Rattle.mc_model.specs.message.Chain.{attempts_in, taken_in}
 use Rattle.fate_chain.specs.declared.decree.Author.{Author}
@@ -24,6 +24,7 @@ waits_until up taken newest older (Attempt number) = last_moment
 waits_until up taken newest older (Failed error) =
     if up then min taken.expiry (newest.moment + retry_delay * attempts_in (newest ∷ older)) else taken.expiry
 waits_until up taken newest older (Fate final error) = last_moment
+waits_until up taken newest older Told = last_moment
 
 abbrev pub IsWaitBehind : Bool → List Decree → ℕ → Type 0
 IsWaitBehind up [] until = ⊥

@@ -50,7 +50,7 @@ fn waits_until(chain: &Chain, up: bool) -> Moment
             let delay = RETRY_DELAY * chain.attempts() as u32;
             earlier_if(up, taken.expiry, newest.moment.later(delay))
         }
-        Kind::Attempt(_) | Kind::Fate(..) => Moment::least().later(u32::MAX),
+        Kind::Attempt(_) | Kind::Fate(..) | Kind::Told => Moment::least().later(u32::MAX),
     }
 }
 
