@@ -1,3 +1,4 @@
+pub mod Deciding
 pub mod Hearing
 pub mod Queued
 pub mod Settling

@@ -4,7 +4,7 @@ ghost use Rattle.std.specs.Prelude.{◌≡◌, List, Some, IfOk, OnErr, option_m
 ghost use Rattle.mc_model.specs.message.Chain.{taken_in};
 ghost use Rattle.mc_model.specs.message.Decree.{Decree};
 ghost use Rattle.node_model.specs.Answers.{answer_by, cancel_answer, cancel_decided, is_match, is_owner, query_shown};
-ghost use Rattle.fate_chain.specs.Kinds.{kind_of};
+ghost use Rattle.fate_chain.specs.Kinds.{final_of, kind_of};
 ghost use Rattle.waiting_requests.specs.Replying.{ShowsChain, answer_given, answer_with};
 ghost use Rattle.waiting_requests.specs.Showing.{IsAbout};
 ghost use Rattle.waiting_requests.specs.Waiting.{request_of};
@@ -106,18 +106,18 @@ fn decided(
     if !is_match(chain.submission(), account, source, destination) {
         return Some(Verdict::NotMatched);
     }
-    ended(&chain.newest().kind)
+    ended(chain.fate(), &chain.newest().kind)
 }
 
-/// What a cancel_sm is answered that came before such a decree.
-fn ended(newest: &Kind) -> Option<Verdict>
-    ensures { (chain : List Decree) → option_map (answer_with chain) result ≡ cancel_answer (kind_of newest.now) chain }
+/// What a cancel_sm is answered by the final state of its message, if it has one, and by the newest decree.
+fn ended(last: Option<Final>, newest: &Kind) -> Option<Verdict>
+    ensures { (chain : List Decree) → option_map (answer_with chain) result ≡ cancel_answer (option_map final_of last) (kind_of newest.now) chain }
 {
-    match newest {
-        Kind::Taken(_) | Kind::Failed(_) => None,
-        Kind::Attempt(_) => Some(Verdict::Kept),
-        Kind::Fate(Final::Deleted, _) => Some(Verdict::Removed),
-        Kind::Fate(_, _) => Some(Verdict::Kept),
+    match (last, newest) {
+        (Some(Final::Deleted), _) => Some(Verdict::Removed),
+        (Some(_), _) => Some(Verdict::Kept),
+        (None, Kind::Taken(_) | Kind::Failed(_)) => None,
+        (None, _) => Some(Verdict::Kept),
     }
 }
 
