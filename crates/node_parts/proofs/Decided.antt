@@ -5,8 +5,8 @@ use Rattle.std.specs.Option.{is_none, option_or}
 use Rattle.std.proofs.lemmas.Bool.{and_parts, cases_Bool, not-true, true≢false}
 use Rattle.std.proofs.lemmas.Bool.Decides.{Decides-eqb}
 use Rattle.mc_model.specs.message.Submission.{Submission}
-use Rattle.mc_model.specs.message.Decree.{Attempt, Decree, Failed, Fate, Final, Kind, Taken}
-use Rattle.mc_model.specs.message.Chain.{final_by, taken_in}
+use Rattle.mc_model.specs.message.Decree.{Attempt, Decree, Failed, Fate, Final, Kind, Taken, Told}
+use Rattle.mc_model.specs.message.Chain.{final_by, final_in, taken_in}
 use Rattle.mc_model.specs.synod.Lists.{In}
 use Rattle.mc_model.specs.synod.Packet.{TopVote}
 use Rattle.mc_model.specs.node.FirstRule.{Delete, Expire, Try, Undeliver}
@@ -17,7 +17,7 @@ use Rattle.node_model.specs.Kept.{Held, Kept, message_at}
 use Rattle.node_model.specs.Requests.{id_of}
 use Rattle.node_model.specs.Rules.{attempt_rule, expiring, first_rule, fitting, idle_rule, if_so, is_attempt_by, known_rule, own_rule}
 use Rattle.node_model.specs.Rules.{shown_to, taken_for, tried, undelivered}
-use Rattle.node_model.specs.Starts.{delete_of, follow}
+use Rattle.node_model.specs.Starts.{delete_of, follow, is_idle}
 use Rattle.waiting_requests.specs.Numbers.{ids_in}
 use Rattle.tick_rules.specs.declared.standpoint.Standpoint.{Standpoint}
 use Rattle.synod_acceptor.specs.Records.{record_at}
@@ -45,45 +45,55 @@ none_shown id (h ∷ others) top unasked = rw (apart id h others unasked) (none_
 
 -- ---- a final state is known
 
-module _ (setup : Setup) (k : Kept) (up : Bool) (id : ℕ) (newest : Decree) (older : List Decree) (final : Final) (error : ℕ)
-    (is : newest.kind ≡ Fate final error) where
-  none_deleted : (taken : Option Submission) → delete_of setup k id k.held newest older taken ≡ None
-  none_deleted None = refl
-  none_deleted (Some taken) = rw is refl
+none_then : (test : Bool) → if_so test None ≡ None
+none_then true = refl
+none_then false = refl
 
-  none_expires : (taken : Submission) → expiring setup k taken newest older ≡ None
-  none_expires taken = rw is refl
+-- behind a fate, told or not
+module _ (setup : Setup) (k : Kept) (id : ℕ) (newest : Decree) (older : List Decree) where
+  -- no rule fits such a newest decree
+  record IsOver (kind : Kind) : Type 0 where
+    waits : is_idle kind ≡ false
+    tries : is_attempt_by setup.node newest kind ≡ false
+    undelivers : undelivered setup k newest older kind ≡ None
+    tried_again : (taken : Submission) → tried setup k taken newest older kind ≡ None
 
-  none_then : (test : Bool) → if_so test None ≡ None
-  none_then true = refl
-  none_then false = refl
+  module _ (over : IsOver newest.kind) where
+    none_deleted : (taken : Option Submission) → delete_of setup k id k.held newest older taken ≡ None
+    none_deleted None = refl
+    none_deleted (Some taken) = rw over.waits refl
 
-  idle_none : (taken : Submission) → idle_rule setup k id taken up newest older ≡ None
-  idle_none taken = λ i.
-      option_or (fitting Delete (none_deleted (taken_in (newest ∷ older)) i))
-      (option_or (fitting Expire (none_expires taken i))
-      (option_or (fitting Undeliver (ap (undelivered setup k newest older) is i))
-      (fitting Try ((ap (λ (kind : Kind). if_so up (tried setup k taken newest older kind)) is ∙ none_then up) i))))
+    none_expires : (taken : Submission) → expiring setup k taken newest older ≡ None
+    none_expires taken = rw over.waits refl
 
-own_none : (setup : Setup) (k : Kept) (up : List ℕ → Bool) (id : ℕ) (newest : Decree) (older : List Decree) (kind : Kind) → newest.kind ≡ kind →
-    is_none (final_by kind) ≡ false → known_rule setup k up id (Some (newest ∷ older)) ≡ None
-own_none setup k up id newest older (Taken message) is fate = absurd (true≢false fate)
-own_none setup k up id newest older (Attempt number) is fate = absurd (true≢false fate)
-own_none setup k up id newest older (Failed error) is fate = absurd (true≢false fate)
-own_none setup k up id newest older (Fate final error) is fate = by_taken (taken_in (newest ∷ older))
-  where
-    by_taken : (taken : Option Submission) → own_rule setup k up id newest older taken ≡ None
-    by_taken None = refl
-    by_taken (Some taken) =
-        ap (λ (kind : Kind). if is_attempt_by setup.node newest kind then attempt_rule setup k (message_at k id)
-        (up taken.target) newest older else idle_rule setup k id taken (up taken.target) newest older) is
-        ∙ idle_none setup k (up taken.target) id newest older final error is taken
+    idle_none : (taken : Submission) (up : Bool) → idle_rule setup k id taken up newest older ≡ None
+    idle_none taken up = λ i.
+        option_or (fitting Delete (none_deleted (taken_in (newest ∷ older)) i))
+        (option_or (fitting Expire (none_expires taken i))
+        (option_or (fitting Undeliver (over.undelivers i))
+        (fitting Try ((ap (if_so up) (over.tried_again taken) ∙ none_then up) i))))
+
+    own_none : (up : List ℕ → Bool) (taken : Option Submission) → own_rule setup k up id newest older taken ≡ None
+    own_none up None = refl
+    own_none up (Some taken) =
+        ap (λ (test : Bool). if test then attempt_rule setup k (message_at k id) (up taken.target) newest older
+        else idle_rule setup k id taken (up taken.target) newest older) over.tries
+        ∙ idle_none taken (up taken.target)
+
+  is_over : (kind : Kind) (below : Option Final) → is_none (final_by kind below) ≡ false → IsOver kind
+  is_over (Taken message) below fate = absurd (true≢false fate)
+  is_over (Attempt number) below fate = absurd (true≢false fate)
+  is_over (Failed error) below fate = absurd (true≢false fate)
+  is_over (Fate final error) below fate = record { waits = refl; tries = refl; undelivers = refl; tried_again = λ taken. refl }
+  is_over Told below fate = record { waits = refl; tries = refl; undelivers = refl; tried_again = λ taken. refl }
 
 none_known : (setup : Setup) (k : Kept) (up : List ℕ → Bool) (id : ℕ) (known : Option (List Decree)) → had_fate known ≡ true →
     known_rule setup k up id known ≡ None
 none_known setup k up id None fate = absurd (true≢false (sym fate))
 none_known setup k up id (Some []) fate = refl
-none_known setup k up id (Some (newest ∷ older)) fate = own_none setup k up id newest older newest.kind refl (not-true (is_none (final_by newest.kind)) fate)
+none_known setup k up id (Some (newest ∷ older)) fate =
+    own_none setup k id newest older (is_over setup k id newest older newest.kind (final_in older) (not-true (is_none (final_in (newest ∷ older))) fate))
+    up (taken_in (newest ∷ older))
 
 -- ---- no rule fits
 

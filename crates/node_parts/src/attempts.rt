@@ -6,7 +6,7 @@ ghost use Rattle.node_parts.specs.Attempting.{attempted_in, untried};
 use fate_chain::MOST_DECREES;
 use tick_rules::Attempted;
 
-/// What a node did, in its incarnation, with its attempts on one message, by their places in the chain, 0 to 17.
+/// What a node did, in its incarnation, with its attempts on one message, by their places in the chain, 0 to 18.
 #[derive(Clone, Copy, Debug)]
 pub struct Attempts {
     each: [Attempted; MOST_DECREES],
@@ -40,7 +40,7 @@ impl Attempts {
 
     /// Notes what was done with the attempt at a place.
     pub fn note(&mut self, place: u8, attempted: Attempted)
-        requires { place ≤ 17 }
+        requires { place ≤ 18 }
         ensures { (other : ℕ) → attempted_in self.new other ≡ (if other == place then attempted else attempted_in self.old other) }
     {
         self.each[place as usize] = attempted;

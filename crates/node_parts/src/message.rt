@@ -273,7 +273,7 @@ impl Message {
 
     /// Notes that the attempt at a place was granted. It takes no memory.
     pub fn grant(&mut self, place: u8)
-        requires { place ≤ 17 }
+        requires { place ≤ 18 }
         ensures { IsTriedSo self.old (λ m. granted_at m place) self.new }
     {
         let closed = self.attempts.at(place).closed;
@@ -288,7 +288,7 @@ impl Message {
 
     /// Notes what closed the attempt at a place. It takes no memory.
     pub fn close(&mut self, place: u8, closing: Closing)
-        requires { place ≤ 17 }
+        requires { place ≤ 18 }
         ensures { IsTriedSo self.old (λ m. closed_at m place (closed_as closing)) self.new }
     {
         let granted = self.attempts.at(place).granted;
@@ -380,7 +380,7 @@ impl Message {
         ensures idle { (setup : Setup) (k : KeptValue) → IsAtRest setup k (timely at.now.clock (held_in queue.now)) id self.now at.now →
             first_rule setup k (is_up up.now) id ≡ None → result ≡ Ok None }
         ensures id { IfOk result (λ ruling. IfSome ruling (λ it. it.chain.id ≡ id)) }
-        ensures place { IfOk result (λ ruling. IfSome ruling (λ it. IfSome it.given_up (λ place. place ≤ 17))) }
+        ensures place { IfOk result (λ ruling. IfSome ruling (λ it. IfSome it.given_up (λ place. place ≤ 18))) }
     {
         if let Some(chain) = queue.taken(at.clock, id) {
             let chain = chain.copy()?;
@@ -417,7 +417,7 @@ impl Message {
         ensures idle { (setup : Setup) (k : KeptValue) → IsAtRest setup k (timely at.now.clock (held_in queue.now)) chain.now.id self.now at.now →
             known_rule setup k (is_up up.now) chain.now.id (Some chain.now.decrees) ≡ None → result ≡ Ok None }
         ensures id { IfOk result (λ ruling. IfSome ruling (λ it. it.chain.id ≡ chain.now.id)) }
-        ensures place { IfOk result (λ ruling. IfSome ruling (λ it. IfSome it.given_up (λ place. place ≤ 17))) }
+        ensures place { IfOk result (λ ruling. IfSome ruling (λ it. IfSome it.given_up (λ place. place ≤ 18))) }
     {
         let place = chain.place();
         let cancelled = queue.cancels(at.clock, chain.id(), chain.submission());
