@@ -1,5 +1,5 @@
 -- What is noted of the messages that are listed, as messages are put, changed and looked at.
-use Rattle.std.proofs.Common.{◌≡◌, ◌⊎◌, ℕ, Bool, true, false, List, map, Option, Some, None, refl, sym, ap, subst, ◌∙◌, inl, inr, arith}
+use Rattle.std.proofs.Common.{◌≡◌, ◌⊎◌, ℕ, Bool, true, false, List, map, ◌<◌, Option, Some, None, refl, sym, ap, subst, ◌∙◌, inl, inr, arith}
 use Rattle.std.specs.Prelude.{◌==◌, ◌||◌, filter, is_some, not, if◌then◌else◌}
 use Rattle.std.proofs.lemmas.Bool.{cases_Bool, eq-eqb, true≢false}
 use Rattle.std.proofs.lemmas.Bool.Decides.{Decides-eqb, nat_tests}
@@ -17,11 +17,13 @@ use Rattle.node_parts.specs.Counting.{recounted_in}
 use Rattle.node_parts.specs.Living.{AreListed, IsAsleepBy, IsNextBy, IsSettled, is_decided, is_kept_listed, is_live}
 use Rattle.node_parts.specs.Messages.{rested, rested_entry}
 use Rattle.node_parts.specs.Renewal.{renewed}
+use Rattle.node_parts.specs.Waking.{AreAwake}
 use Rattle.node_parts.specs.Sleeping.{AreNoted, IsDueIn, IsNoted, IsNotedOf, dozed, ids_of, is_due, is_looked_at, is_past, noted_of, sleep_of}
 use Rattle.node_parts.proofs.Listings.{AreWoken, among_or, mapped_from, mapped_ids, rise_listed, stays_listed, was_listed, with_id}
 use Rattle.node_parts.proofs.Listings as listings
 use Rattle.node_parts.proofs.Living.{listed_visited, rested_settled, visited_from}
 use Rattle.node_parts.proofs.Sleeping.{noted_still, settled_asleep, sleeps_until, sleeps_without}
+use Rattle.node_parts.proofs.Waking.{due_awake}
 
 -- ---- the next one that is due
 
@@ -52,6 +54,24 @@ module _ (entries : List (ℕ × Filed)) (live : List Listing) (room : ℕ) (not
             subst (λ (n : ℕ). IsAsleepBy noted clock n m) there.2 (asleep_by noted l.id m l.until clock (are.each l m there.1 at) sleeps)
       ]
 
+  -- and so is one that is not awake, if none wakes at the clock
+  pub next_awake_is : (until : ℕ) (ids : List ℕ) → AreAwake until live ids → clock < until → (from : ℕ) (next : Option ℕ) →
+      IsLeastFrom from (λ id. In id ids) next → IsNextBy (λ id m. IsAsleepBy noted clock id m) entries from next
+  next_awake_is until ids awake before from next least = by_next next least
+    where
+      asleep : (id : ℕ) (m : Filed) → value_at entries id ≡ Some m → (In id ids → ⊥) → IsAsleepBy noted clock id m
+      asleep id m found other = asleep_else id m found (λ is. other (due_awake until live ids awake clock before id is))
+
+      by_next : (of : Option ℕ) → IsLeastFrom from (λ id. In id ids) of → IsNextBy (λ id m. IsAsleepBy noted clock id m) entries from of
+      by_next None least = λ id m found above. asleep id m found (λ among. let below = least id among in absurd (omega (arith, below, above)))
+      by_next (Some it) least = (
+        listed.kept it (awake.listed it least.0),
+        (
+          least.1.0,
+          λ id m found above behind. asleep id m found (λ among. let lower = least.1.1 id among above in absurd (omega (arith, lower, behind))),
+        ),
+      )
+
   pub next_due_is : (from : ℕ) (next : Option ℕ) → IsLeastFrom from (IsDueIn clock live) next → IsNextBy (λ id m. IsAsleepBy noted clock id m) entries from next
   next_due_is from None least = λ id m found above. asleep_else id m found (λ due. let below = least id due in absurd (omega (arith, below, above)))
   next_due_is from (Some next) least = (
@@ -65,7 +85,7 @@ pub noted_put : (noted : Option Noted) (entries : List (ℕ × Filed)) (live new
     AreNoted noted entries live → AreNoted noted (with_value entries id m) new
 noted_put noted entries live new id m woken are = record {
   each = λ l n among found. elim (woken l among) [
-    | inl awake ↦ subst (IsNotedOf noted l.id n) (sym awake) tt
+    | inl awake ↦ subst (IsNotedOf noted l.id n) (sym awake.1) tt
     | inr was ↦ are.each l n was.0 (sym (elsewhere id m l.id was.1 entries) ∙ found)
   ];
 }
@@ -190,3 +210,19 @@ module _ (old : Option Noted) (held : Noted) (me : Author) (up : List (List ℕ)
 
   pub dozed_ids : (live : List Listing) → ids_of (map (dozed entries me (is_up up) clock) live) ≡ ids_of live
   dozed_ids live = mapped_ids (dozed entries me (is_up up) clock) (λ l. refl) live
+
+-- the shelf keeps what it has to keep
+pub shelf_dozed : (old : Option Noted) (held : Noted) (entries : List (ℕ × Filed)) (live new : List Listing) (ids : List ℕ) (room more until : ℕ) (clock : Option ℕ) →
+    ((at : ℕ) → clock ≡ Some at → IsNoted old held.me held.up.items) → new ≡ map (dozed entries held.me (is_up held.up.items) clock) live → more ≡ room →
+    AreAwake until new ids → AreListed entries (ids_of live) room → AreNoted old entries live →
+    AreListed entries (ids_of new) more × (AreNoted (Some held) entries new × AreAwake until new ids)
+shelf_dozed old held entries live new ids room more until clock known is same awake listed are = (
+  subst (λ (n : ℕ). AreListed entries (ids_of new) n) (sym same)
+      (subst (λ (ls : List ℕ). AreListed entries ls room)
+      (sym (ap ids_of is ∙ dozed_ids old held held.me held.up.items refl refl clock known entries live)) listed),
+  (
+    subst (λ (ls : List Listing). AreNoted (Some held) entries ls) (sym is)
+        (noted_dozed old held held.me held.up.items refl refl clock known entries live are),
+    awake,
+  ),
+)

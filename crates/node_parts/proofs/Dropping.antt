@@ -1,9 +1,8 @@
 -- The rounds end of the messages that are awake, and no others run.
-use Rattle.std.proofs.Common.{◌≡◌, ◌⊎◌, ℕ, ◌<◌, Bool, true, false, List, [], ◌∷◌, map, Option, Some, None, refl}
+use Rattle.std.proofs.Common.{◌≡◌, ◌⊎◌, ℕ, ◌<◌, true, List, [], ◌∷◌, map, Option, Some, None, refl}
 use Rattle.std.proofs.Common.{sym, ap, subst, ◌∙◌, inl, inr, arith}
-use Rattle.std.specs.Prelude.{◌==◌, is_some, if◌then◌else◌}
+use Rattle.std.specs.Prelude.{◌==◌}
 use Rattle.std.specs.BTreeMap.{is_at}
-use Rattle.std.specs.BTreeSet.{insert_key}
 use Rattle.std.specs.Map.{keys_of}
 use Rattle.std.specs.Ordering.{match_ordering, nat_cmp}
 use Rattle.std.specs.declared.cmp.Ordering.{Ordering}
@@ -19,20 +18,13 @@ use Rattle.node_parts.specs.declared.noted.Noted.{Noted}
 use Rattle.node_parts.specs.Living.{AreListed, AreRising, dropped, dropped_at, dropped_of}
 use Rattle.node_parts.specs.Messages.{rested, rested_entry}
 use Rattle.node_parts.specs.Sleeping.{AreNoted, IsNotedOf, ids_of}
+use Rattle.node_parts.specs.Waking.{AreAwake}
 use Rattle.node_parts.proofs.Living.{keys_put, listed_key}
 use Rattle.node_parts.proofs.Listings.{among_or}
-use Rattle.node_parts.proofs.Rising.{each}
+use Rattle.node_parts.proofs.Rising.{each, put_again}
 use Rattle.node_parts.proofs.Sleeping.{sleeps_without}
 
 -- ---- the keys stay as they are
-
-put_again : (ids : List ℕ) (id : ℕ) → AreRising ids → In id ids → insert_key nat_cmp ids id ≡ ids
-put_again [] id rise none = absurd none
-put_again (x ∷ xs) id rise (inl same) = let equal : nat_cmp id x ≡ Equal = grind (arith, nat_tests) in rw equal refl
-put_again (x ∷ xs) id rise (inr later) =
-    let above = each (λ (y : ℕ). x < y) xs rise.0 id later in
-    let greater : nat_cmp id x ≡ Greater = grind (arith, nat_tests) in
-    rw greater (ap (λ (ys : List ℕ). x ∷ ys) (put_again xs id rise.1 later))
 
 keys_at : (entries : List (ℕ × Filed)) (id : ℕ) → AreRising (keys_of entries) → keys_of (dropped_at entries id) ≡ keys_of entries
 keys_at entries id rise = by_value (value_at entries id) refl
@@ -73,58 +65,41 @@ at_rested entries id rise = by_value (value_at entries id) refl
 
 -- ---- no round is left
 
--- one of them that is awake has this id
-pub record IsAwakeIn (live : List Listing) (id : ℕ) : Type 0 where
-  pub listing : Listing
-  pub among : In listing live
-  pub named : listing.id ≡ id
-  pub awake : listing.until ≡ None
+abbrev pub RunAmong : List (ℕ × Filed) → List ℕ → Type 0
+RunAmong entries ids = (id : ℕ) (m : Filed) → value_at entries id ≡ Some m → (m.proposer.round ≡ None) ⊎ In id ids
 
-abbrev pub RunAmong : List (ℕ × Filed) → List Listing → Type 0
-RunAmong entries live = (id : ℕ) (m : Filed) → value_at entries id ≡ Some m → (m.proposer.round ≡ None) ⊎ IsAwakeIn live id
-
-run_later : (entries : List (ℕ × Filed)) (l : Listing) (ls : List Listing) → RunAmong entries (l ∷ ls) →
-    RunAmong (if is_some l.until then entries else dropped_at entries l.id) ls
-run_later entries l ls run = by_until l.until refl
+run_later : (entries : List (ℕ × Filed)) (n : ℕ) (ns : List ℕ) → RunAmong entries (n ∷ ns) → RunAmong (dropped_at entries n) ns
+run_later entries n ns run = by_value (value_at entries n) refl
   where
-    behind : (id : ℕ) → ((l.id ≡ id) × (l.until ≡ None) → ⊥) → IsAwakeIn (l ∷ ls) id → IsAwakeIn ls id
-    behind id other is = elim is.among [
-      | inl same ↦ absurd (other (sym (ap (λ (it : Listing). it.id) same) ∙ is.named, sym (ap (λ (it : Listing). it.until) same) ∙ is.awake))
-      | inr later ↦ record { listing = is.listing; among = later; named = is.named; awake = is.awake }
-    ]
+    behind : (id : ℕ) → (id ≡ n → ⊥) → (id ≡ n) ⊎ In id ns → In id ns
+    behind id apart (inl same) = absurd (apart same)
+    behind id apart (inr later) = later
 
-    by_value : (value : Option Filed) → value_at entries l.id ≡ value → RunAmong (dropped_of entries l.id value) ls
-    by_value None none id m found = elim (cases_Bool (id == l.id)) [
+    by_value : (value : Option Filed) → value_at entries n ≡ value → RunAmong (dropped_of entries n value) ns
+    by_value None none id m found = elim (cases_Bool (id == n)) [
       | inl same ↦
-          let ids : id ≡ l.id = (Decides-eqb id l.id).0 same in
+          let ids : id ≡ n = (Decides-eqb id n).0 same in
           let nothing : None ≡ Some m = sym none ∙ sym (ap (value_at entries) ids) ∙ found in
           absurd (cc)
       | inr differs ↦ elim (run id m found) [
         | inl rests ↦ inl rests
-        | inr awake ↦ inr (behind id (λ it. true≢false (sym (eq-eqb id l.id (sym it.0)) ∙ differs)) awake)
+        | inr awake ↦ inr (behind id (λ it. true≢false (sym (eq-eqb id n it) ∙ differs)) awake)
       ]
     ]
-    by_value (Some was) at id m found = elim (cases_Bool (id == l.id)) [
+    by_value (Some was) at id m found = elim (cases_Bool (id == n)) [
       | inl same ↦
-          let ids : id ≡ l.id = (Decides-eqb id l.id).0 same in
+          let ids : id ≡ n = (Decides-eqb id n).0 same in
           let put : Some m ≡ Some (rested was) =
-          sym found ∙ subst (λ (key : ℕ). value_at (with_value entries l.id (rested was)) key ≡ Some (rested was)) (sym ids) (here l.id (rested was) entries) in
+          sym found ∙ subst (λ (key : ℕ). value_at (with_value entries n (rested was)) key ≡ Some (rested was)) (sym ids) (here n (rested was) entries) in
           let is : rested was ≡ m = cc in
-          inl (sym (ap (λ (n : Filed). n.proposer.round) is))
+          inl (sym (ap (λ (one : Filed). one.proposer.round) is))
       | inr differs ↦
-          let apart : id ≡ l.id → ⊥ = λ ids. true≢false (sym (eq-eqb id l.id ids) ∙ differs) in
-          elim (run id m (sym (elsewhere l.id (rested was) id apart entries) ∙ found)) [
+          let apart : id ≡ n → ⊥ = λ ids. true≢false (sym (eq-eqb id n ids) ∙ differs) in
+          elim (run id m (sym (elsewhere n (rested was) id apart entries) ∙ found)) [
             | inl rests ↦ inl rests
-            | inr awake ↦ inr (behind id (λ it. apart (sym it.0)) awake)
+            | inr awake ↦ inr (behind id apart awake)
           ]
     ]
-
-    by_until : (until : Option ℕ) → l.until ≡ until → RunAmong (if is_some until then entries else dropped_at entries l.id) ls
-    by_until (Some u) is = λ id m found. elim (run id m found) [
-      | inl rests ↦ inl rests
-      | inr awake ↦ inr (behind id (λ it. let two : Some u ≡ None = sym is ∙ it.1 in absurd (cc)) awake)
-    ]
-    by_until None is = by_value (value_at entries l.id) refl
 
 unchanged : (m : Filed) → m.proposer.round ≡ None → rested m ≡ m
 unchanged m rests = λ i. record m { proposer = record m.proposer { round = sym rests i } }
@@ -145,23 +120,16 @@ all_rest (e ∷ es) rise rests =
         let greater : nat_cmp id e.0 ≡ Greater = grind (arith, nat_tests) in
         rw greater found
 
-pub all_dropped : (live : List Listing) (entries : List (ℕ × Filed)) → AreRising (keys_of entries) → RunAmong entries live →
-    dropped live entries ≡ map rested_entry entries
-all_dropped [] entries rise run = sym (all_rest entries rise (λ id m found. elim (run id m found) [ inl rests ↦ rests | inr awake ↦ absurd awake.among ]))
-all_dropped (l ∷ ls) entries rise run = by_until (is_some l.until) (run_later entries l ls run) (all_dropped ls)
-  where
-    by_until : (sleeps : Bool) → RunAmong (if sleeps then entries else dropped_at entries l.id) ls →
-        ((es : List (ℕ × Filed)) → AreRising (keys_of es) → RunAmong es ls → dropped ls es ≡ map rested_entry es) →
-        dropped ls (if sleeps then entries else dropped_at entries l.id) ≡ map rested_entry entries
-    by_until true rest others = others entries rise rest
-    by_until false rest others =
-        others (dropped_at entries l.id) (subst AreRising (sym (keys_at entries l.id rise)) rise) rest ∙ at_rested entries l.id rise
+pub all_dropped : (ids : List ℕ) (entries : List (ℕ × Filed)) → AreRising (keys_of entries) → RunAmong entries ids → dropped ids entries ≡ map rested_entry entries
+all_dropped [] entries rise run = sym (all_rest entries rise (λ id m found. elim (run id m found) [ inl rests ↦ rests | inr none ↦ absurd none ]))
+all_dropped (n ∷ ns) entries rise run =
+    all_dropped ns (dropped_at entries n) (subst AreRising (sym (keys_at entries n rise)) rise) (run_later entries n ns run) ∙ at_rested entries n rise
 
 -- ---- by what is noted
 
-pub runs_among : (entries : List (ℕ × Filed)) (live : List Listing) (room : ℕ) (noted : Option Noted) → AreListed entries (ids_of live) room →
-    AreNoted noted entries live → RunAmong entries live
-runs_among entries live room noted listed are id m found = elim (among_or id live) [
+pub runs_among : (entries : List (ℕ × Filed)) (live : List Listing) (ids : List ℕ) (room until : ℕ) (noted : Option Noted) →
+    AreListed entries (ids_of live) room → AreNoted noted entries live → AreAwake until live ids → RunAmong entries ids
+runs_among entries live ids room until noted listed are awake id m found = elim (among_or id live) [
   | inr none ↦ inl (listed.others id m found none).rests
   | inl there ↦ by_until there.0 there.1 there.2 there.0.until refl
 ]
@@ -170,8 +138,8 @@ runs_among entries live room noted listed are id m found = elim (among_or id liv
     by_noted None u is = absurd is
     by_noted (Some of) u is = (sleeps_without of.me _ id m u is).0
 
-    by_until : (l : Listing) → In l live → l.id ≡ id → (until : Option ℕ) → l.until ≡ until → (m.proposer.round ≡ None) ⊎ IsAwakeIn live id
-    by_until l among named None is = inr (record { listing = l; among = among; named = named; awake = is })
+    by_until : (l : Listing) → In l live → l.id ≡ id → (moment : Option ℕ) → l.until ≡ moment → (m.proposer.round ≡ None) ⊎ In id ids
+    by_until l among named None is = inr (subst (λ (n : ℕ). In n ids) named (awake.each l among is))
     by_until l among named (Some u) is =
         let at : value_at entries l.id ≡ Some m = ap (value_at entries) named ∙ found in
         inl (by_noted noted u (subst (λ (n : ℕ). IsNotedOf noted n m (Some u)) named

@@ -12,5 +12,7 @@ pub mod Counting
 pub mod Accounts
 pub mod Sleeping
 pub mod Listings
+pub mod Waking
+pub mod Looking
 pub mod Dozing
 pub mod Dropping

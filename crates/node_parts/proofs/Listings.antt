@@ -90,6 +90,13 @@ module _ (live : List Listing) (id : ℕ) where
   place_found rise found within is =
       searched (ids_of live) id rise found (subst (IsSearchInRange found) (sym many) within) (found_among found within is)
 
+-- it stands there in a list that is the same
+pub placed : (ls seen : List Listing) (id number : ℕ) (found to : Result ℕ ℕ) → seen ≡ ls → number ≡ id → found ≡ to →
+    IsPlaceOf (ids_of seen) number found → IsPlaceOf (ids_of ls) id to
+placed ls seen id number found to live numbers is at =
+    subst (λ (r : Result ℕ ℕ). IsPlaceOf (ids_of ls) id r) is
+    (subst (λ (n : ℕ). IsPlaceOf (ids_of ls) n found) numbers (subst (λ (s : List Listing). IsPlaceOf (ids_of s) number found) live at))
+
 -- ---- one is listed
 
 set_there : (live : List Listing) (place : ℕ) (x : Listing) → slice_get (ids_of live) place ≡ Some x.id → ids_of (set live place x) ≡ ids_of live
@@ -133,14 +140,14 @@ insert_in (y ∷ ys) (suc place) x = inr (insert_in ys place x)
 
 -- it is awake, and the others are as they were
 abbrev pub AreWoken : ℕ → List Listing → List Listing → Type 0
-AreWoken id old new = (l : Listing) → In l new → (l.until ≡ None) ⊎ (In l old × (l.id ≡ id → ⊥))
+AreWoken id old new = (l : Listing) → In l new → ((l.id ≡ id) × (l.until ≡ None)) ⊎ (In l old × (l.id ≡ id → ⊥))
 
 woken : (old new : List Listing) (x : Listing) → x.until ≡ None → AreRising (ids_of new) → In x new → ((l : Listing) → In l new → (l ≡ x) ⊎ In l old) →
     AreWoken x.id old new
 woken old new x awake rise there from l among = elim (cases_Bool (l.id == x.id)) [
   | inl same ↦
-      let is = only_one new rise l x among there ((Decides-eqb l.id x.id).0 same) in
-      inl (ap (λ (it : Listing). it.until) is ∙ awake)
+      let ids : l.id ≡ x.id = (Decides-eqb l.id x.id).0 same in
+      inl (ids, ap (λ (it : Listing). it.until) (only_one new rise l x among there ids) ∙ awake)
   | inr differs ↦
       let apart : l.id ≡ x.id → ⊥ = λ ids. true≢false (sym (eq-eqb l.id x.id ids) ∙ differs) in
       elim (from l among) [ inl same ↦ absurd (apart (ap (λ (it : Listing). it.id) same)) | inr was ↦ inr (was, apart) ]

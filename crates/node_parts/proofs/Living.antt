@@ -38,6 +38,20 @@ next_live_is entries live room from (Some next) listed least = (
   (least.1.0, λ id m found above before. listed.others id m found (λ among. let lower = least.1.1 id among above in absurd (omega (arith, lower, before)))),
 )
 
+-- ---- how many are listed
+
+key_length : (entries : List (ℕ × Filed)) → length (keys_of entries) ≡ length entries
+key_length [] = refl
+key_length (e ∷ es) = ap suc (key_length es)
+
+pub few_listed : (entries : List (ℕ × Filed)) (live : List ℕ) (room : ℕ) → AreListed entries live room → IsStrictlySortedBy nat_cmp (keys_of entries) →
+    length live ≤ room
+few_listed entries live room listed ascends =
+    let fewer = no_more live (keys_of entries) listed.rising (rise_of (keys_of entries) ascends) listed.kept in
+    let keys = key_length entries in
+    let fits = listed.fits in
+    omega (arith, fewer, keys, fits)
+
 -- ---- a message is put
 
 pub keys_put : (entries : List (ℕ × Filed)) (id : ℕ) (m : Filed) → keys_of (with_value entries id m) ≡ insert_key nat_cmp (keys_of entries) id
@@ -63,10 +77,6 @@ one_longer (e ∷ es) id m = at_order (nat_cmp id e.0) (one_longer es id m)
     at_order Less rest = omega arith
     at_order Equal rest = omega arith
     at_order Greater rest = omega (arith, rest)
-
-key_length : (entries : List (ℕ × Filed)) → length (keys_of entries) ≡ length entries
-key_length [] = refl
-key_length (e ∷ es) = ap suc (key_length es)
 
 module _ (entries : List (ℕ × Filed)) (live : List ℕ) (room id : ℕ) (m : Filed) (listed : AreListed entries live room) where
   live_kept : (other : ℕ) → In other (insert_key nat_cmp live id) → In other (keys_of (with_value entries id m))

@@ -1,6 +1,6 @@
 -- Numbers that rise, and what is among them.
 use Rattle.std.proofs.Common.{◌≡◌, ◌⊎◌, ℕ, ◌<◌, List, [], ◌∷◌, refl, sym}
-use Rattle.std.proofs.Common.{subst, ◌∙◌, inl, inr, arith}
+use Rattle.std.proofs.Common.{ap, subst, ◌∙◌, inl, inr, arith}
 use Rattle.std.specs.BTreeSet.{insert_key}
 use Rattle.std.specs.List.{AllByRecursion}
 use Rattle.std.specs.List.Sorted.{IsStrictlySortedBy}
@@ -78,3 +78,13 @@ put_in z x (y ∷ ys) among = at_order (nat_cmp x y) refl (put_in z x ys) among
     at_order Greater order rest (inl same) = inr (rest (inl same))
     at_order Greater order rest (inr (inl same)) = inl same
     at_order Greater order rest (inr (inr later)) = inr (rest (inr later))
+
+-- ---- one that is among them is put
+
+pub put_again : (ids : List ℕ) (id : ℕ) → AreRising ids → In id ids → insert_key nat_cmp ids id ≡ ids
+put_again [] id rise none = absurd none
+put_again (x ∷ xs) id rise (inl same) = let equal : nat_cmp id x ≡ Equal = grind (arith, nat_tests) in rw equal refl
+put_again (x ∷ xs) id rise (inr later) =
+    let above = each (λ (y : ℕ). x < y) xs rise.0 id later in
+    let greater : nat_cmp id x ≡ Greater = grind (arith, nat_tests) in
+    rw greater (ap (λ (ys : List ℕ). x ∷ ys) (put_again xs id rise.1 later))

@@ -11,3 +11,4 @@ pub mod Told
 pub mod Turning
 pub mod Sleeping
 pub mod Living
+pub mod Waking

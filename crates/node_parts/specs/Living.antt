@@ -1,5 +1,5 @@
 -- Which messages of a node are live (own).
-use Rattle.std.specs.Prelude.{◌≡◌, ℕ, ◌<◌, ◌≤◌, Bool, true, false, ◌&&◌, ◌||◌, not, is_some, List, [], ◌∷◌, length, get_or, Option, Some, None, Result, Ok, Err, if◌then◌else◌}
+use Rattle.std.specs.Prelude.{◌≡◌, ℕ, ◌<◌, ◌≤◌, Bool, true, false, ◌&&◌, ◌||◌, not, is_some, List, [], ◌∷◌, length, get_or, Option, Some, None, Result, Ok, Err}
 use Rattle.std.specs.BTreeSet.{insert_key}
 use Rattle.std.specs.List.{AllByRecursion, insert, slice_get}
 use Rattle.std.specs.Map.{keys_of}
@@ -53,9 +53,12 @@ abbrev pub is_live : ℕ → Option Filed → Bool
 is_live id None = false
 is_live id (Some m) = not (is_decided id m)
 
+abbrev pub is_live_in : List (ℕ × Filed) → ℕ → Bool
+is_live_in entries id = is_live id (value_at entries id)
+
 -- so is one that sleeps
 abbrev pub is_kept_listed : List (ℕ × Filed) → Listing → Bool
-is_kept_listed entries l = is_some l.until || is_live l.id (value_at entries l.id)
+is_kept_listed entries l = is_some l.until || is_live_in entries l.id
 
 -- all before a place are lower than an id, and the others are not
 pub record IsCut (ids : List ℕ) (id place : ℕ) : Type 0 where
@@ -97,6 +100,6 @@ dropped_of entries id (Some m) = with_value entries id (rested m)
 abbrev pub dropped_at : List (ℕ × Filed) → ℕ → List (ℕ × Filed)
 dropped_at entries id = dropped_of entries id (value_at entries id)
 
-abbrev pub dropped : List Listing → List (ℕ × Filed) → List (ℕ × Filed)
+abbrev pub dropped : List ℕ → List (ℕ × Filed) → List (ℕ × Filed)
 dropped [] entries = entries
-dropped (l ∷ ls) entries = dropped ls (if is_some l.until then entries else dropped_at entries l.id)
+dropped (id ∷ ids) entries = dropped ids (dropped_at entries id)

@@ -2,11 +2,13 @@
 #![tactic(auto)]
 
 mod attempts;
+mod awake;
 mod comparing;
 mod copies;
 mod fault;
 mod grant_refusal;
 mod input;
+mod list_room;
 mod listing;
 mod message;
 mod message_room;
@@ -15,6 +17,7 @@ mod noted;
 mod outputs;
 mod renewal;
 mod ruling;
+mod sleepers;
 mod turn;
 
 pub use fault::StepFault;

@@ -1,12 +1,12 @@
 //! Room that was taken for messages.
 
-use crate::listing::Listing;
+use crate::list_room::ListRoom;
 use crate::message::Message;
 use shelf::Room;
 
-/// Room for messages on their shelf, and for them on the list of those that are live. Nothing lies there yet.
+/// Room for messages on their shelf, and for them on the lists of those that are live and of those that are awake. Nothing lies there yet.
 #[derive(Drop)]
 pub struct MessageRoom {
     pub(crate) shelf: Room<Message>,
-    pub(crate) live: Vec<Listing>,
+    pub(crate) live: ListRoom,
 }

@@ -16,23 +16,25 @@ ghost use Rattle.node_parts.specs.Counting.{IsCountable, recounted_at};
 ghost use Rattle.delivery.specs.Targets.{is_up};
 ghost use Rattle.node_parts.specs.declared.listing.Listing.{Listing as ListingValue};
 ghost use Rattle.node_parts.specs.declared.message.Message.{Message as Filed};
-ghost use Rattle.node_parts.specs.Living.{AreRising, IsNextBy, IsNextLive, IsPassedBy, IsPlaceOf, dropped, dropped_at, is_kept_listed, is_live};
-ghost use Rattle.node_parts.specs.Sleeping.{IsAsleep, IsDueIn, IsNoted, dozed, ids_of, is_due, is_looked_at};
+ghost use Rattle.node_parts.specs.Living.{AreRising, IsNextBy, IsNextLive, IsPassedBy, IsPlaceOf, dropped, dropped_at, is_kept_listed, is_live, is_live_in};
+ghost use Rattle.node_parts.specs.Sleeping.{IsAsleep, IsDueIn, IsNoted, ids_of, is_due};
 ghost use Rattle.node_parts.specs.Renewal.{renewed};
 ghost use Rattle.node_parts.specs.Messages.{rested_entry};
 
+use crate::awake::{self, Awake, next_from};
+use crate::list_room::{ListRoom, widen};
 use crate::listing::Listing;
 use crate::message::Message;
 use crate::message_room::MessageRoom;
 use crate::noted::{Noted, is_noted};
 use crate::renewal::Renewal;
+use crate::sleepers::doze_due;
 use fate_chain::Author;
 use mc_types::{Moment, MsgId};
 use pdu_codec::SystemId;
 use shelf::Shelf;
 use std::alloc::{AllocError, Global};
 use std::marker::Model;
-use std::mem;
 use synod_learner::Recount;
 use tick_rules::Standpoint;
 
@@ -42,32 +44,37 @@ use tick_rules::Standpoint;
 /// memory, if there is room.
 ///
 /// Of those that are listed it is noted until when they sleep, for a node and the accounts that were up at its last tick; one that was put since is awake.
+/// Those that are awake have a list of their own, and it is noted before when no other one wakes: until then a tick looks at those that are awake alone.
 #[derive(Drop)]
 pub struct MessageShelf {
     shelf: Shelf<Message>,
     // Those that are live, in ascending order of their ids, with room for all that are kept.
     live: Vec<Listing>,
+    // Those of them that are awake.
+    awake: Awake,
     // For whom it is noted until when they sleep; none of them sleeps if it is noted for nobody.
     noted: Option<Noted>,
 }
 
 impl Model for MessageShelf {
-    ghost use Rattle.std.specs.Prelude.{◌-◌, length};
+    ghost use Rattle.std.specs.Prelude.{◌-◌, length, min};
     ghost use Rattle.std.specs.Vec.{vec_capacity};
     ghost use Rattle.node_parts.specs.Living.{AreListed, Listed};
     ghost use Rattle.node_parts.specs.Sleeping.{AreNoted, ids_of};
+    ghost use Rattle.node_parts.specs.Waking.{AreAwake};
 
     ghost Value = { Listed };
 
     ghost view = { λ s. record {
       entries = s.shelf.entries;
       room = s.shelf.room;
-      listings = vec_capacity s.live - length s.shelf.entries;
+      listings = min (vec_capacity s.live) (vec_capacity s.awake.ids) - length s.shelf.entries;
       noted = s.noted;
     } };
 
     ghost invariant = { λ s.
-        AreListed s.shelf.entries (ids_of s.live.items) (vec_capacity s.live) × AreNoted s.noted s.shelf.entries s.live.items };
+        AreListed s.shelf.entries (ids_of s.live.items) (min (vec_capacity s.live) (vec_capacity s.awake.ids))
+        × (AreNoted s.noted s.shelf.entries s.live.items × AreAwake s.awake.until s.live.items s.awake.ids.items) };
 }
 
 impl MessageShelf {
@@ -78,6 +85,10 @@ impl MessageShelf {
         MessageShelf {
             shelf: Shelf::empty(alloc),
             live: Vec::new(alloc),
+            awake: Awake {
+                ids: Vec::new(alloc),
+                until: Moment::least(),
+            },
             noted: None,
         }
     }
@@ -122,6 +133,7 @@ impl MessageShelf {
         ensures { IsNextBy (IsPassedBy self.now asleep.now) self.now.entries from result }
     {
         match asleep {
+            Some(clock) if *clock < self.awake.until => next_from(&self.awake.ids, from),
             Some(clock) => due_from(&self.live, from, *clock),
             None => least_from(&self.live, from),
         }
@@ -135,11 +147,12 @@ impl MessageShelf {
         ensures memory { OnErr result (0 < more) }
     {
         let shelf = self.shelf.room(alloc, more)?;
-        let live = wider(alloc, &self.live, self.shelf.len(), more)?;
+        let have = self.live.capacity().min(self.awake.ids.capacity());
+        let live = ListRoom::of(alloc, have, self.shelf.len(), more)?;
         Ok(MessageRoom { shelf, live })
     }
 
-    /// Moves the messages and their list into this room, as far as it is larger than what they have. It takes no memory.
+    /// Moves the messages and their lists into this room, as far as it is larger than what they have. It takes no memory.
     #[inline(never)]
     pub fn make_room(&mut self, room: MessageRoom)
         ensures entries { self.new.entries ≡ self.old.entries }
@@ -147,8 +160,10 @@ impl MessageShelf {
         ensures listings { max self.old.listings (vec_capacity room.live - length self.old.entries) ≤ self.new.listings }
     {
         let MessageRoom { shelf, live } = room;
+        let (live, awake) = live.split();
         self.shelf.make_room(shelf);
         widen(&mut self.live, live);
+        widen(&mut self.awake.ids, awake);
     }
 
     /// Puts a message in the place of what was kept of its id, and lists it. There is room. It takes no memory.
@@ -163,6 +178,7 @@ impl MessageShelf {
         self.shelf.put(id.number(), message);
         self.shelf.ascends();
         enlist(&mut self.live, id);
+        awake::put(&mut self.awake.ids, id);
     }
 
     /// Counts a vote anew on the message of this id, which is kept. It takes no memory.
@@ -177,7 +193,7 @@ impl MessageShelf {
     }
 
     /// Ends the round of each message, and takes those that are awake and decided off the list. No round runs of a message that is asleep or not
-    /// listed. It takes no memory.
+    /// listed, so it looks at none. It takes no memory.
     #[inline(never)]
     pub fn rest(&mut self)
         ensures entries { self.new.entries ≡ map rested_entry self.old.entries }
@@ -185,12 +201,12 @@ impl MessageShelf {
         ensures listings { self.new.listings ≡ self.old.listings }
     {
         self.shelf.ascends();
-        drop_rounds(&mut self.shelf, &self.live);
-        unlist(&mut self.live, &self.shelf);
+        drop_rounds(&mut self.shelf, &self.awake.ids);
+        unlist(&mut self.live, &mut self.awake.ids, &self.shelf);
     }
 
-    /// Notes for the author and these accounts until when each message sleeps that is due at the clock, or each, if it was not noted for them. It takes
-    /// no memory.
+    /// Notes for the author and these accounts until when each message sleeps that is due at the clock, or each, if it was not noted for them. If none
+    /// that sleeps is due, it looks at those that are awake alone. It takes no memory.
     #[inline(never)]
     pub fn doze(&mut self, at: &Standpoint, up: Vec<SystemId>)
         ensures entries { self.new.entries ≡ self.old.entries }
@@ -198,9 +214,17 @@ impl MessageShelf {
         ensures listings { self.new.listings ≡ self.old.listings }
         ensures noted { IsNoted self.new.noted at.now.author up.items }
     {
-        let clock = self.asleep_at(at, &up);
-        doze_each(&mut self.live, &self.shelf, &at.author, &up, &clock);
-        self.noted = Some(Noted { me: at.author, up });
+        self.shelf.ascends();
+        let asleep = self.asleep_at(at, &up);
+        let noted = Noted { me: at.author, up };
+        doze_due(
+            &mut self.live,
+            &mut self.awake,
+            &self.shelf,
+            &noted,
+            &asleep,
+        );
+        self.noted = Some(noted);
     }
 
     /// Keeps each message for this node in this incarnation. It takes no memory.
@@ -223,15 +247,13 @@ fn count_on(shelf: &mut Shelf<Message>, id: MsgId, recount: Recount)
     }
 }
 
-/// Ends the rounds of those that are listed and awake.
-fn drop_rounds(shelf: &mut Shelf<Message>, live: &[Listing])
-    ensures entries { shelf.new.entries ≡ dropped live.now shelf.old.entries }
+/// Ends the rounds of the messages of these ids.
+fn drop_rounds(shelf: &mut Shelf<Message>, ids: &[MsgId])
+    ensures entries { shelf.new.entries ≡ dropped ids.now shelf.old.entries }
     ensures room { shelf.new.room ≡ shelf.old.room }
 {
-    for listing in live {
-        if listing.until.is_none() {
-            drop_round(shelf, listing.id);
-        }
+    for id in ids {
+        drop_round(shelf, *id);
     }
 }
 
@@ -246,7 +268,7 @@ fn drop_round(shelf: &mut Shelf<Message>, id: MsgId)
 }
 
 /// Where an id stands among those that are listed, which ascend, or where it would go.
-fn place_of(live: &[Listing], id: u64) -> Result<usize, usize>
+pub(crate) fn place_of(live: &[Listing], id: u64) -> Result<usize, usize>
     requires { AreRising (ids_of live.now) }
     ensures { IsPlaceOf (ids_of live.now) id result }
 {
@@ -295,47 +317,12 @@ fn first_due(live: &[Listing], clock: Moment) -> Option<MsgId>
     None
 }
 
-/// Room for so many more messages to be listed than there are, if the list has none for them; it is twice as many as there are, at least.
-fn wider(
-    alloc: Global,
-    live: &Vec<Listing>,
-    messages: usize,
-    more: usize,
-) -> Result<Vec<Listing>, AllocError>
-    requires { messages ≤ vec_capacity live.now }
-    ensures serves { IfOk result (λ room. (more ≤ vec_capacity live.now - messages) ⊎ (messages + more ≤ vec_capacity room)) }
-    ensures memory { OnErr result (0 < more) }
-{
-    if more <= live.capacity() - messages {
-        return Ok(Vec::new(alloc));
-    }
-    let Some(least) = messages.checked_add(more) else {
-        return Err(AllocError);
-    };
-    Vec::with_capacity(alloc, least.max(messages.saturating_mul(2)))
-}
-
-/// Moves the list into this room, if it is larger than what it has.
-fn widen(live: &mut Vec<Listing>, mut room: Vec<Listing>)
-    ensures live { live.new.items ≡ live.old.items }
-    ensures capacity { max (vec_capacity live.old) (vec_capacity room) ≤ vec_capacity live.new }
-{
-    if room.capacity() <= live.capacity() {
-        return;
-    }
-    room.clear();
-    if room.append(live).is_err() {
-        unreachable!();
-    }
-    mem::swap(live, &mut room);
-}
-
 /// Lists a message of an id, to be looked at by the next tick; there is room for it.
 fn enlist(live: &mut Vec<Listing>, id: MsgId)
     requires rising { AreRising (ids_of live.old.items) }
     requires room { length (insert_key nat_cmp (ids_of live.old.items) id) ≤ vec_capacity live.old }
     ensures ids { ids_of live.new.items ≡ insert_key nat_cmp (ids_of live.old.items) id }
-    ensures woken { (l : ListingValue) → In l live.new.items → (l.until ≡ None) ⊎ (In l live.old.items × (l.id ≡ id → ⊥)) }
+    ensures woken { (l : ListingValue) → In l live.new.items → ((l.id ≡ id) × (l.until ≡ None)) ⊎ (In l live.old.items × (l.id ≡ id → ⊥)) }
     ensures capacity { vec_capacity live.new ≡ vec_capacity live.old }
 {
     let listing = Listing { id, until: None };
@@ -349,12 +336,19 @@ fn enlist(live: &mut Vec<Listing>, id: MsgId)
     }
 }
 
-/// Takes those that are awake and decided off the list.
-fn unlist(live: &mut Vec<Listing>, shelf: &Shelf<Message>)
+/// Takes those that are awake and decided off both lists. It goes over the list of those that are live only if there is one.
+fn unlist(live: &mut Vec<Listing>, awake: &mut Vec<MsgId>, shelf: &Shelf<Message>)
+    requires { (l : ListingValue) → In l live.old.items → l.until ≡ None → In l.id awake.old.items }
     ensures live { live.new.items ≡ filter (is_kept_listed shelf.now.entries) live.old.items }
+    ensures awake { awake.new.items ≡ filter (is_live_in shelf.now.entries) awake.old.items }
     ensures capacity { vec_capacity live.new ≡ vec_capacity live.old }
+    ensures room { vec_capacity awake.new ≡ vec_capacity awake.old }
 {
-    live.retain(|listing| listing.until.is_some() || is_live(shelf, listing.id));
+    let were = awake.len();
+    awake.retain(|id| is_live(shelf, *id));
+    if awake.len() < were {
+        live.retain(|listing| listing.until.is_some() || is_live(shelf, listing.id));
+    }
 }
 
 /// Whether the message of an id is not decided.
@@ -364,49 +358,5 @@ fn is_live(shelf: &Shelf<Message>, id: MsgId) -> bool
     match shelf.get(id.number()) {
         Some(message) => !message.is_decided(id),
         None => false,
-    }
-}
-
-/// Notes until when each message sleeps that is due at a clock, or each, if there is none.
-fn doze_each(
-    live: &mut Vec<Listing>,
-    shelf: &Shelf<Message>,
-    me: &Author,
-    up: &[SystemId],
-    clock: &Option<Moment>,
-)
-    ensures live { live.new.items ≡ map (dozed shelf.now.entries me.now (is_up up.now) clock.now) live.old.items }
-    ensures capacity { vec_capacity live.new ≡ vec_capacity live.old }
-{
-    for listing in live.iter_mut() {
-        doze(listing, shelf, me, up, clock);
-    }
-}
-
-/// Notes until when a message sleeps, if it is due at a clock, or if there is none.
-fn doze(
-    listing: &mut Listing,
-    shelf: &Shelf<Message>,
-    me: &Author,
-    up: &[SystemId],
-    clock: &Option<Moment>,
-)
-    ensures { listing.new ≡ dozed shelf.now.entries me.now (is_up up.now) clock.now listing.old }
-{
-    if is_looked_at(clock, listing) {
-        listing.until = match shelf.get(listing.id.number()) {
-            Some(message) => message.until(listing.id, me, up),
-            None => None,
-        };
-    }
-}
-
-/// Whether a message is due at a clock, or if there is none.
-fn is_looked_at(clock: &Option<Moment>, listing: &Listing) -> bool
-    ensures { result ≡ is_looked_at clock.now listing.now }
-{
-    match clock {
-        Some(clock) => listing.is_due(*clock),
-        None => true,
     }
 }

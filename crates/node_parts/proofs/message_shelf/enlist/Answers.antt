@@ -1,29 +1,21 @@
-use Rattle.std.proofs.Common.{◌≡◌, ℕ, List, Result, Ok, Err, None, sym, ap, subst, ◌∙◌, rules}
+use Rattle.std.proofs.Common.{◌≡◌, Ok, Err, None, sym, ap, subst, ◌∙◌, rules}
 use Rattle.std.specs.List.{insert}
-use Rattle.node_parts.specs.declared.listing.Listing.{Listing}
-use Rattle.node_parts.specs.Living.{IsPlaceOf}
 use Rattle.node_parts.specs.Sleeping.{ids_of}
-use Rattle.node_parts.proofs.Listings.{AreWoken, put_between, put_there, woken_between, woken_there}
+use Rattle.node_parts.proofs.Listings.{AreWoken, placed, put_between, put_there, woken_between, woken_there}
 use Rattle.node_parts.proofs.Rising.{rise_put}
 use Rattle.node_parts.proofs.message_shelf.enlist.Goals as goal
-
-place_there : (ls seen : List Listing) (id number : ℕ) (found to : Result ℕ ℕ) → seen ≡ ls → number ≡ id → found ≡ to →
-    IsPlaceOf (ids_of seen) number found → IsPlaceOf (ids_of ls) id to
-place_there ls seen id number found to live numbers is at =
-    subst (λ (r : Result ℕ ℕ). IsPlaceOf (ids_of ls) id r) is
-    (subst (λ (n : ℕ). IsPlaceOf (ids_of ls) n found) numbers (subst (λ (s : List Listing). IsPlaceOf (ids_of s) number found) live at))
 
 pub returns-in-Ok-clause-ids : goal.returns-in-Ok-clause-ids
 returns-in-Ok-clause-ids c =
     let items = c.args.live.now.items in
-    put_there items c.in-Ok.place c.args.id (place_there items c.deref.result.now c.args.id c.number.result c.place_of.result (Ok c.in-Ok.place)
+    put_there items c.in-Ok.place c.args.id (placed items c.deref.result.now c.args.id c.number.result c.place_of.result (Ok c.in-Ok.place)
     c.deref.ensures.value c.number.ensures.value c.in-Ok.is c.place_of.ensures)
 
 pub returns-in-Ok-clause-woken : goal.returns-in-Ok-clause-woken
 returns-in-Ok-clause-woken c =
     let items = c.args.live.now.items in
     woken_there items c.in-Ok.place c.args.id c.requires.rising
-    (place_there items c.deref.result.now c.args.id c.number.result c.place_of.result (Ok c.in-Ok.place)
+    (placed items c.deref.result.now c.args.id c.number.result c.place_of.result (Ok c.in-Ok.place)
     c.deref.ensures.value c.number.ensures.value c.in-Ok.is c.place_of.ensures)
 
 pub returns-else-is_err-clause-ids : goal.returns-else-is_err-clause-ids
@@ -31,7 +23,7 @@ returns-else-is_err-clause-ids c =
     let items = c.args.live.now.items in
     let put : c.insert.new.self.items ≡ insert items c.in-Err.place (record { id = c.args.id; until = None }) = search rules in
     ap ids_of put
-    ∙ put_between items c.in-Err.place c.args.id (place_there items c.deref.result.now c.args.id c.number.result c.place_of.result (Err c.in-Err.place)
+    ∙ put_between items c.in-Err.place c.args.id (placed items c.deref.result.now c.args.id c.number.result c.place_of.result (Err c.in-Err.place)
     c.deref.ensures.value c.number.ensures.value c.in-Err.is c.place_of.ensures)
 
 pub returns-else-is_err-clause-woken : goal.returns-else-is_err-clause-woken
@@ -40,5 +32,5 @@ returns-else-is_err-clause-woken c =
     let put : c.insert.new.self.items ≡ insert items c.in-Err.place (record { id = c.args.id; until = None }) = search rules in
     subst (AreWoken c.args.id items) (sym put)
     (woken_between items c.in-Err.place c.args.id (rise_put c.args.id (ids_of items) c.requires.rising)
-    (place_there items c.deref.result.now c.args.id c.number.result c.place_of.result (Err c.in-Err.place)
+    (placed items c.deref.result.now c.args.id c.number.result c.place_of.result (Err c.in-Err.place)
     c.deref.ensures.value c.number.ensures.value c.in-Err.is c.place_of.ensures))

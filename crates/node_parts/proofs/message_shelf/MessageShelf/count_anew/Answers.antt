@@ -1,4 +1,5 @@
 use Rattle.std.proofs.Common.{◌≡◌, ◌-◌, ℕ, List, length, sym, ap, subst, ◌∙◌}
+use Rattle.std.specs.Prelude.{min}
 use Rattle.std.specs.Vec.{vec_capacity}
 use Rattle.node_parts.specs.declared.message.Message.{Message as Filed}
 use Rattle.node_parts.specs.Counting.{IsCountable, recounted_in}
@@ -13,22 +14,25 @@ invariant_of-self c =
     let s = c.self.inside in
     let entries = s.shelf.entries in
     let ids = ids_of s.live.items in
-    let cap = vec_capacity s.live in
+    let cap = min (vec_capacity s.live) (vec_capacity s.awake.ids) in
     let r = c.args.recount in
     let is = subst (λ (l : Listed). IsCountable l.entries c.args.id c.args.recount) (sym c.self.view_is) c.requires in (
       subst (λ (es : List (ℕ × Filed)). AreListed es ids cap) (sym c.count_on.ensures.entries)
           (listed_anew entries ids cap c.args.id r c.self.invariant.0 c.ascends.ensures is),
-      subst (λ (es : List (ℕ × Filed)). AreNoted s.noted es s.live.items)
-          (sym (c.count_on.ensures.entries ∙ recounted_there entries c.args.id r is.message is.kept))
-          (noted_changed s.noted entries s.live.items c.args.id is.message (recounted_in is.message r) is.kept (recounted_keeps c.args.id is.message r)
-          c.self.invariant.1),
+      (
+        subst (λ (es : List (ℕ × Filed)). AreNoted s.noted es s.live.items)
+            (sym (c.count_on.ensures.entries ∙ recounted_there entries c.args.id r is.message is.kept))
+            (noted_changed s.noted entries s.live.items c.args.id is.message (recounted_in is.message r) is.kept (recounted_keeps c.args.id is.message r)
+            c.self.invariant.1.0),
+        c.self.invariant.1.1,
+      ),
     )
 
 pub returns-clause-listings : goal.returns-clause-listings
 returns-clause-listings c =
     let entries = c.self.inside.shelf.entries in
     let ids = ids_of c.self.inside.live.items in
-    let cap = vec_capacity c.self.inside.live in
+    let cap = min (vec_capacity c.self.inside.live) (vec_capacity c.self.inside.awake.ids) in
     let is = subst (λ (l : Listed). IsCountable l.entries c.args.id c.args.recount) (sym c.self.view_is) c.requires in
     let same : length c.count_on.new.shelf.entries ≡ length entries =
     ap length c.count_on.ensures.entries

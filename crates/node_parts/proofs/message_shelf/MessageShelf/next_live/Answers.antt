@@ -1,4 +1,5 @@
 use Rattle.std.proofs.Common.{List, subst}
+use Rattle.std.specs.Prelude.{min}
 use Rattle.std.specs.Vec.{vec_capacity}
 use Rattle.mc_model.specs.synod.Lists.{In}
 use Rattle.waiting_requests.specs.Numbers.{IsLeastFrom}
@@ -11,5 +12,5 @@ pub returns : goal.returns
 returns c =
     let s = c.self.inside in
     rw (← c.self.view_is)
-    (next_live_is s.shelf.entries (ids_of s.live.items) (vec_capacity s.live) c.args.from c.least_from.result c.self.invariant.0
+    (next_live_is s.shelf.entries (ids_of s.live.items) (min (vec_capacity s.live) (vec_capacity s.awake.ids)) c.args.from c.least_from.result c.self.invariant.0
     (subst (λ (ls : List Listing). IsLeastFrom c.args.from (λ id. In id (ids_of ls)) c.least_from.result) c.deref.ensures.value c.least_from.ensures))

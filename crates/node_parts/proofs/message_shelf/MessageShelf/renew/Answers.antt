@@ -1,4 +1,5 @@
 use Rattle.std.proofs.Common.{ℕ, List, sym, subst}
+use Rattle.std.specs.Prelude.{min}
 use Rattle.std.specs.Vec.{vec_capacity}
 use Rattle.node_parts.specs.declared.message.Message.{Message as Filed}
 use Rattle.node_parts.specs.Living.{AreListed}
@@ -12,8 +13,11 @@ pub invariant_of-self : goal.invariant_of-self
 invariant_of-self c =
     let s = c.self.inside in
     let f = renewed c.args.me in (
-      subst (λ (es : List (ℕ × Filed)). AreListed es (ids_of s.live.items) (vec_capacity s.live)) (sym c.for_each.ensures.entries)
-          (listed_visited f s.shelf.entries (ids_of s.live.items) (vec_capacity s.live) (renewed_settled c.args.me) c.self.invariant.0),
-      subst (λ (es : List (ℕ × Filed)). AreNoted s.noted es s.live.items) (sym c.for_each.ensures.entries)
-          (noted_visited f s.noted s.shelf.entries s.live.items (renewed_keeps c.args.me) c.self.invariant.1),
+      subst (λ (es : List (ℕ × Filed)). AreListed es (ids_of s.live.items) (min (vec_capacity s.live) (vec_capacity s.awake.ids))) (sym c.for_each.ensures.entries)
+          (listed_visited f s.shelf.entries (ids_of s.live.items) (min (vec_capacity s.live) (vec_capacity s.awake.ids)) (renewed_settled c.args.me) c.self.invariant.0),
+      (
+        subst (λ (es : List (ℕ × Filed)). AreNoted s.noted es s.live.items) (sym c.for_each.ensures.entries)
+            (noted_visited f s.noted s.shelf.entries s.live.items (renewed_keeps c.args.me) c.self.invariant.1.0),
+        c.self.invariant.1.1,
+      ),
     )

@@ -4,7 +4,7 @@ use Rattle.delivery.specs.Targets.{is_up}
 use Rattle.shelf.proofs.Visited.{all_changed}
 use Rattle.node_parts.specs.Sleeping.{dozed}
 use Rattle.node_parts.proofs.Listings.{changed_one}
-use Rattle.node_parts.proofs.message_shelf.doze_each.Goals as goal
+use Rattle.node_parts.proofs.sleepers.doze_each.Goals as goal
 
 pub loop-listing-preserved : goal.loop-listing-preserved
 loop-listing-preserved c =
