@@ -16,15 +16,17 @@ pub enum Step {
     Failed(u16, u16),
     /// The message has the state of this code, with this error.
     Fate(u32, u8, u16),
+    /// The receipt on that is told.
+    Told(u32),
 }
 
-/// The layout of chain octets: the format, the id 1000100001 and the number of decrees; the message from 144 to 155, with the text Hi.
-const HEAD: &[u8] = b"\x01\0\0\0\0\x3b\x9c\x50\xa1\0";
+/// The layout of chain octets: the format, 2, the id 1000100001 and the number of decrees; the message from 144 to 155, with the text Hi.
+const HEAD: &[u8] = b"\x02\0\0\0\0\x3b\x9c\x50\xa1\0";
 
 const MESSAGE: &[u8] = b"\x01\x01\0\x01\x65\xb9\x8d\x80\
 \x04sme1\x04sme1\0\x01\x01\x03144\x01\x01\x03155\0\0\0";
 
-const TERM: &[u8] = b"\0\x65\xb9\x8d\x80\x65\xbd\x82\0\x02Hi\0\0";
+const TERM: &[u8] = b"\0\x65\xb9\x8d\x80\x65\xbd\x82\0\0\x02Hi\0\0";
 
 /// Appends the octets of a decree of this kind, so many seconds after the message was taken: what it has beside that comes last.
 fn put_decree(rt: &impl Abort, octets: &mut Vec<u8>, kind: u8, after: u32, last: &[u8]) {
@@ -44,6 +46,7 @@ fn put_step(rt: &impl Abort, octets: &mut Vec<u8>, step: Step) {
             let [high, low] = error.to_be_bytes();
             put_decree(rt, octets, 4, after, &[state, high, low]);
         }
+        Step::Told(after) => put_decree(rt, octets, 5, after, b""),
     }
 }
 
@@ -110,3 +113,18 @@ pub const TO_EXPIRED: &[Step] = &[Step::Fate(259200, EXPIRED, 0)];
 pub const TO_DELETED: &[Step] = &[Step::Fate(0, DELETED, 0)];
 
 pub const TO_REJECTED: &[Step] = &[Step::Attempt(0, 1), Step::Fate(0, REJECTED, 102)];
+
+/// The same as above, and an hour later the receipt on it is told.
+pub const TOLD_DELIVERED: &[Step] = &[
+    Step::Attempt(0, 1),
+    Step::Fate(0, DELIVERED, 0),
+    Step::Told(3600),
+];
+
+pub const TOLD_EXPIRED: &[Step] = &[Step::Fate(259200, EXPIRED, 0), Step::Told(262800)];
+
+pub const TOLD_REJECTED: &[Step] = &[
+    Step::Attempt(0, 1),
+    Step::Fate(0, REJECTED, 102),
+    Step::Told(3600),
+];

@@ -168,6 +168,7 @@ fn a_message_that_waits_is_deleted_before_it_is_attempted(rt: HostRuntime) {
     ];
     assert_decided(&rt, alloc, &[], &on_taken);
     assert_decided(&rt, alloc, &OPEN, &on_open);
+    assert_decided(&rt, alloc, TOLD_DELIVERED, &on_open);
 }
 
 /// How many seconds after the message was taken something is due after these decrees, for node 1 in this incarnation; none if it is now.
@@ -212,6 +213,12 @@ fn nothing_is_due_while_an_attempt_is_open(rt: HostRuntime) {
         due_after(&rt, alloc, &OPEN, 2, (Done::Granted, Up::Sme1)),
     ];
     assert_same(&rt, &found, &[Some(2_395_785_599), None, None, None]);
+}
+
+#[test]
+fn nothing_is_due_behind_a_told(rt: HostRuntime) {
+    let found = due_after(&rt, rt.alloc(), TOLD_DELIVERED, 1, (Done::Nothing, Up::Sme1));
+    assert_same(&rt, &found, &Some(2_395_785_599));
 }
 
 /// The final state in which a chain ends, its error, and how many seconds after the message was taken.

@@ -83,6 +83,7 @@ const NOTHING: &[Row<'static>] = &[
     (&[Step::Attempt(0, 1)], 60, true, None),
     (&[Step::Attempt(0, 1)], 259200, true, None),
     (TO_DELIVERED, 259200, true, None),
+    (TOLD_DELIVERED, 259200, true, None),
 ];
 
 #[test]

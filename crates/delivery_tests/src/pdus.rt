@@ -70,6 +70,8 @@ fn what_is_no_attempt_is_not_delivered(rt: HostRuntime) {
     let failed = delivery_refused(&rt, alloc, &FAILURES);
     let refused = Some(DeliverFault::NoAttempt);
     assert_same(&rt, &(taken, failed), &(refused, refused));
+    let told = delivery_refused(&rt, alloc, TOLD_DELIVERED);
+    assert_same(&rt, &told, &refused);
 }
 
 #[test]
@@ -80,6 +82,14 @@ fn a_receipt_of_each_final_state_goes_back(rt: HostRuntime) {
     assert_receipt(&rt, alloc, TO_DELETED, DELETED_RECEIPT);
     assert_receipt(&rt, alloc, &undelivered(), UNDELIVERABLE_RECEIPT);
     assert_receipt(&rt, alloc, TO_REJECTED, REJECTED_RECEIPT);
+}
+
+#[test]
+fn a_receipt_that_is_told_is_that_of_its_fate(rt: HostRuntime) {
+    let alloc = rt.alloc();
+    assert_receipt(&rt, alloc, TOLD_DELIVERED, DELIVERED_RECEIPT);
+    assert_receipt(&rt, alloc, TOLD_EXPIRED, EXPIRED_RECEIPT);
+    assert_receipt(&rt, alloc, TOLD_REJECTED, REJECTED_RECEIPT);
 }
 
 #[test]

@@ -47,6 +47,7 @@ pub(crate) fn receipt_octets(
         option_map (report_octets pushed.sequence pushed.knows_optional) (reported_on chain.now.id chain.now.decrees)) }
     ensures none { reported_on chain.now.id chain.now.decrees ≡ None → result ≡ Ok None }
 {
+    chain.bounds();
     match receipt_pdu(alloc, chain, pushed.sequence) {
         Ok(pdu) => Ok(Some(encoded(alloc, fitted(alloc, pushed, pdu))?)),
         Err(ReceiptFault::Memory) => Err(AllocError),

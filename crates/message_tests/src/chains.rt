@@ -4,6 +4,7 @@ ghost use Rattle.std.specs.Prelude.{◌≤◌};
 
 use crate::same::assert_same;
 use crate::values::{address, text};
+use desk::{Answer, shown};
 use fate_chain::{
     Author, Chain, ChainFault, Content, Decree, ErrorCode, Final, Kind, SharedSubmission,
     Submission,
@@ -126,6 +127,7 @@ enum Next {
     Attempt(u8),
     Failed(u16),
     Fate(Final, u16),
+    Told,
 }
 
 // A decree of an incarnation of node 1, and its moment.
@@ -144,6 +146,7 @@ fn decree(rt: &impl Abort, (incarnation, seconds, next): Step) -> Decree {
         Next::Attempt(number) => Kind::Attempt(number),
         Next::Failed(number) => Kind::Failed(error(rt, number)),
         Next::Fate(last, number) => Kind::Fate(last, error(rt, number)),
+        Next::Told => Kind::Told,
     };
     Decree {
         author,
@@ -230,6 +233,25 @@ const BEHIND_A_FATE: &[Step] = &[
     (2, EXPIRY, Next::Fate(Final::Expired, 0)),
 ];
 
+// The receipt on a fate is told by a later incarnation of the same node.
+const TOLD: &[Step] = &[
+    (1, TAKEN, Next::Fate(Final::Deleted, 999)),
+    (3, FAILED, Next::Told),
+];
+
+const TOLD_ALONE: &[Step] = &[(1, EXPIRY, Next::Told)];
+
+const TOLD_EARLY: &[Step] = &[(2, FAILED + 59, Next::Told)];
+
+const BEHIND_A_TOLD: &[Step] = &[
+    (3, FAILED, Next::Told),
+    (4, FAILED, Next::Told),
+    (3, FAILED, Next::Attempt(1)),
+    (3, FAILED, Next::Failed(1)),
+    (1, FAILED, Next::Fate(Final::Deleted, 999)),
+    (1, EXPIRY, Next::Fate(Final::Expired, 0)),
+];
+
 // The message of a chain, taken once more by its author at its newest moment.
 fn taken_again(rt: &impl Abort, alloc: Global, chain: &Chain) -> Decree {
     let message = SharedSubmission::make(alloc, message(rt, alloc));
@@ -273,6 +295,11 @@ const STANDING: &[(&str, &[Step], Standing)] = &[
         EXPIRED,
         (4, State::Expired, 0),
     ),
+    (
+        "a fate that is told stays as it was",
+        TOLD,
+        (3, State::Deleted, 999),
+    ),
 ];
 
 #[test]
@@ -286,13 +313,87 @@ fn chains_stand(rt: HostRuntime) {
 const REFUSED: &[(&str, &[Step], &[Step])] = &[
     ("an attempt ends by its author", ATTEMPTED, OF_ANOTHER_END),
     ("the second attempt waits a minute", FAILED_ONCE, TOO_EARLY),
-    ("nothing follows a fate", DELIVERED, BEHIND_A_FATE),
+    ("no other end follows a fate", DELIVERED, BEHIND_A_FATE),
+    ("a fate is not told before it", DELIVERED, TOLD_EARLY),
+    ("what is taken is not told", &[], TOLD_ALONE),
+    ("an attempt is not told", ATTEMPTED, TOLD_ALONE),
+    ("a failure is not told", FAILED_ONCE, TOLD_ALONE),
+    ("nothing follows a Told", TOLD, BEHIND_A_TOLD),
 ];
 
 #[test]
 fn decrees_are_refused(rt: HostRuntime) {
     for (shows, steps, refused) in REFUSED {
         assert_refused(&rt, rt.alloc(), shows, steps, refused);
+    }
+}
+
+#[test]
+fn a_receipt_is_told_by_the_node_that_took_the_message(rt: HostRuntime) {
+    let chain = chain_of(&rt, rt.alloc(), DELETED);
+    let mut told = decree(&rt, (1, TAKEN, Next::Told));
+    let by_node_1 = chain.permits(&told);
+    told.author.node = NodeNo::of(2);
+    let by_node_2 = chain.permits(&told);
+    drop(told);
+    drop(chain);
+    assert_same(&rt, &(by_node_1, by_node_2), &(true, false));
+}
+
+#[test]
+fn a_message_ended_with_its_fate(rt: HostRuntime) {
+    let chain = chain_of(&rt, rt.alloc(), TOLD);
+    let ended = chain.newest_untold().moment.seconds();
+    let (fate, place) = (chain.fate(), chain.place());
+    drop(chain);
+    assert_same(&rt, &(fate, ended, place), &(Some(Final::Deleted), TAKEN, 2));
+}
+
+#[test]
+fn a_query_shows_a_fate_that_is_told_as_before(rt: HostRuntime) {
+    let chain = chain_of(&rt, rt.alloc(), TOLD);
+    let answer = shown(&chain);
+    drop(chain);
+    let ended = moment(&rt, TAKEN);
+    let wanted = Answer::Shown(State::Deleted, Some(ended), 255);
+    assert_same(&rt, &answer, &wanted);
+}
+
+// A message with this registered_delivery, whose first attempt ends it.
+fn ended(rt: &impl Abort, alloc: Global, registered_delivery: u8, last: Final) -> Chain {
+    let message = Submission {
+        registered_delivery,
+        ..message(rt, alloc)
+    };
+    let begun = Chain::begin(alloc, id(rt), moment(rt, TAKEN), message);
+    let chain = begun.expect(rt, "a chain");
+    let tried = extended(rt, chain, decree(rt, (1, TAKEN, Next::Attempt(1))));
+    extended(rt, tried, decree(rt, (1, TAKEN, Next::Fate(last, 0))))
+}
+
+// A registered_delivery, a final state, and whether the receipt on it may be told.
+const ASKED: &[(u8, Final, bool)] = &[
+    (0, Final::Delivered, false),
+    (0, Final::Rejected, false),
+    (1, Final::Delivered, true),
+    (1, Final::Rejected, true),
+    (2, Final::Delivered, false),
+    (2, Final::Rejected, true),
+    (3, Final::Delivered, false),
+    (3, Final::Rejected, false),
+    (0x11, Final::Delivered, true),
+];
+
+#[test]
+fn a_receipt_is_told_if_it_was_asked(rt: HostRuntime) {
+    for (registered_delivery, last, may) in ASKED {
+        let chain = ended(&rt, rt.alloc(), *registered_delivery, *last);
+        let told = decree(&rt, (2, FAILED, Next::Told));
+        let permits = chain.permits(&told);
+        drop(told);
+        drop(chain);
+        let wanted = (registered_delivery, last, *may);
+        assert_same(&rt, &(registered_delivery, last, permits), &wanted);
     }
 }
 
@@ -539,7 +640,70 @@ fn changed_octets_are_judged(rt: HostRuntime) {
     assert_judged(&rt, rt.alloc(), &EARLIER_CHAIN, EARLIER_CHANGED);
 }
 
-// The longest chain: taken, tried eight times, each failure seven seconds after its attempt, and given up by another node.
+// It is deleted by node 1, and that is told by its third incarnation seven seconds later.
+const FATE: [u8; 11] = [
+    0x04, 0x01, 0x00, 0x01, 0x38, 0x6d, 0x43, 0x80, 0x04, 0x03, 0xe7,
+];
+const TELLING: [u8; 8] = [0x05, 0x01, 0x00, 0x03, 0x38, 0x6d, 0x43, 0x87];
+
+// A chain of one decree with these behind it, so many in all.
+fn with_decrees(
+    rt: &impl Abort,
+    alloc: Global,
+    whole: &[u8],
+    count: u8,
+    more: &[&[u8]],
+) -> Vec<u8> {
+    let mut octets = whole.to_vec(alloc).expect(rt, "memory");
+    if let Some(number) = octets.get_mut(10) {
+        *number = count;
+    }
+    for decree in more {
+        octets.extend_from_slice(decree).expect(rt, "memory");
+    }
+    octets
+}
+
+#[test]
+fn a_chain_that_is_told_is_its_octets(rt: HostRuntime) {
+    let alloc = rt.alloc();
+    let octets = with_decrees(&rt, alloc, &TAKEN_CHAIN, 3, &[&FATE, &TELLING]);
+    assert_spelled(&rt, chain_of(&rt, alloc, TOLD), &octets);
+    assert_spelled(&rt, read(&rt, alloc, &octets), &octets);
+    let shows = "a Told is read";
+    assert_stands(&rt, shows, read(&rt, alloc, &octets), (3, State::Deleted, 999));
+    drop(octets);
+}
+
+// Why octets with these decrees behind a first one are no chain, if they are none.
+fn fault_behind(
+    rt: &impl Abort,
+    alloc: Global,
+    whole: &[u8],
+    count: u8,
+    more: &[&[u8]],
+) -> Option<ChainFault> {
+    let octets = with_decrees(rt, alloc, whole, count, more);
+    let fault = fault_of(alloc, &octets);
+    drop(octets);
+    fault
+}
+
+#[test]
+fn format_2_alone_tells(rt: HostRuntime) {
+    let alloc = rt.alloc();
+    let told = fault_behind(&rt, alloc, &EARLIER_CHAIN, 3, &[&FATE, &TELLING]);
+    let untold = fault_behind(&rt, alloc, &EARLIER_CHAIN, 2, &[&FATE]);
+    // In format 2 a Told that may not stand there makes no permitted chain.
+    let alone = fault_behind(&rt, alloc, &TAKEN_CHAIN, 2, &[&TELLING]);
+    let longer = fault_behind(&rt, alloc, &TAKEN_CHAIN, 3, &[&FATE, &TELLING, b"\0"]);
+    let no_text = Some(ChainFault::NotBytes);
+    let not_permitted = Some(ChainFault::NotPermitted);
+    let wanted = [no_text, None, not_permitted, no_text];
+    assert_same(&rt, &[told, untold, alone, longer], &wanted);
+}
+
+// The longest chain but Told: taken, tried eight times, each failure seven seconds after its attempt, and given up by another node.
 const TRIED_CHAIN: [u8; 224] = [
     // format, id and number of decrees
     0x02, 0x00, 0x00, 0x00, 0x00, 0x3b, 0x9c, 0x50, 0xa1, 0x00, 0x12,
@@ -602,13 +766,26 @@ fn given_up(moment: Moment) -> Decree {
 }
 
 #[test]
-fn the_longest_chain_is_written(rt: HostRuntime) {
+fn a_chain_has_19_decrees_at_most(rt: HostRuntime) {
+    let chain = tried_eight_times(&rt, rt.alloc());
+    let ended = chain.newest().moment;
+    let told = decree(&rt, (9, ended.seconds(), Next::Told));
+    let chain = extended(&rt, chain, told);
+    let (copy, place) = (chain.copy(), chain.place());
+    drop(chain);
+    let standing = (19, State::Undeliverable, 999);
+    assert_stands(&rt, "longest", copy.expect(&rt, "memory"), standing);
+    assert_same(&rt, &place, &18);
+}
+
+#[test]
+fn a_chain_of_eight_attempts_is_written(rt: HostRuntime) {
     let chain = tried_eight_times(&rt, rt.alloc());
     assert_spelled(&rt, chain, &TRIED_CHAIN);
 }
 
 #[test]
-fn the_longest_chain_is_copied(rt: HostRuntime) {
+fn a_chain_of_eight_attempts_is_copied(rt: HostRuntime) {
     let chain = read(&rt, rt.alloc(), &TRIED_CHAIN);
     let copy = chain.copy();
     drop(chain);
@@ -616,7 +793,7 @@ fn the_longest_chain_is_copied(rt: HostRuntime) {
 }
 
 #[test]
-fn the_longest_chain_is_read(rt: HostRuntime) {
+fn a_chain_of_eight_attempts_is_read(rt: HostRuntime) {
     let chain = read(&rt, rt.alloc(), &TRIED_CHAIN);
-    assert_stands(&rt, "longest", chain, (18, State::Undeliverable, 999));
+    assert_stands(&rt, "eight attempts", chain, (18, State::Undeliverable, 999));
 }

@@ -4,8 +4,8 @@ use Rattle.std.specs.Prelude.{nat_le, not}
 use Rattle.std.specs.Option.{is_none}
 use Rattle.std.proofs.lemmas.Bool.{and_parts, cases_Bool}
 use Rattle.std.proofs.lemmas.Bool.Decides.{nat_tests}
-use Rattle.mc_model.specs.message.Decree.{Attempt, Decree, Failed, Fate, Kind, Taken}
-use Rattle.mc_model.specs.message.Chain.{final_by}
+use Rattle.mc_model.specs.message.Decree.{Attempt, Decree, Failed, Fate, Final, Kind, Taken, Told}
+use Rattle.mc_model.specs.message.Chain.{final_by, final_in}
 use Rattle.mc_model.specs.node.Setup.{Setup}
 use Rattle.node_model.specs.Answers.{had_fate}
 use Rattle.node_model.specs.Attempts.{grant_refusal, known_refusal, newest_refusal}
@@ -23,13 +23,15 @@ refused_behind_a_fate : (setup : Setup) (k : Kept) (m : Message) (known : Option
     known_refusal setup k m known ≡ None → ⊥
 refused_behind_a_fate setup k m None fate given = cc
 refused_behind_a_fate setup k m (Some []) fate given = cc
-refused_behind_a_fate setup k m (Some (newest ∷ older)) fate given = by_kind newest.kind fate given
+refused_behind_a_fate setup k m (Some (newest ∷ older)) fate given = by_kind newest.kind (final_in older) fate given
   where
-    by_kind : (kind : Kind) → not (is_none (final_by kind)) ≡ true → newest_refusal setup k m newest (length older) kind ≡ None → ⊥
-    by_kind (Taken message) fate given = cc
-    by_kind (Attempt number) fate given = cc
-    by_kind (Failed error) fate given = cc
-    by_kind (Fate final error) fate given = cc
+    by_kind : (kind : Kind) (below : Option Final) → not (is_none (final_by kind below)) ≡ true →
+        newest_refusal setup k m newest (length older) kind ≡ None → ⊥
+    by_kind (Taken message) below fate given = cc
+    by_kind (Attempt number) below fate given = cc
+    by_kind (Failed error) below fate given = cc
+    by_kind (Fate final error) below fate given = cc
+    by_kind Told below fate given = cc
 
 module _ (k : Holding) where
   abbrev pub IsGrantable : ℕ → Type 0

@@ -2,7 +2,7 @@
 use Rattle.std.proofs.Common.{◌≡◌, ℕ, Bool, true, false, List, [], ◌∷◌, length, Option, Some, None, refl, sym, ap, subst, ◌∙◌, arith}
 use Rattle.std.specs.Prelude.{◌==◌, ◌&&◌, pred, map, not, option_map, if◌then◌else◌}
 use Rattle.std.proofs.lemmas.Bool.Decides.{Decides-eqb}
-use Rattle.mc_model.specs.message.Decree.{Attempt, Decree, Failed, Fate, Kind, Taken}
+use Rattle.mc_model.specs.message.Decree.{Attempt, Decree, Failed, Fate, Kind, Taken, Told}
 use Rattle.mc_model.specs.message.Chain.{Chain}
 use Rattle.mc_model.specs.synod.Packet.{Packet, Slot, slot_at}
 use Rattle.mc_model.specs.node.Grant.{NotMine, OlderIncarnation}
@@ -104,6 +104,7 @@ grant_backs setup k m (Some (newest ∷ older)) given = (omega arith, λ same. b
     by_kind (Attempt number) given = by_node (newest.author.node == setup.node) (newest.author.incarnation == k.incarnation) given
     by_kind (Failed error) given = absurd (cc)
     by_kind (Fate final error) given = absurd (cc)
+    by_kind Told given = absurd (cc)
 
 granted_here : (k : Holding) (id : ℕ) (taken new : Filed) (step : Step) → AreOwn k → grant_refusal k.setup (kept_of k) id ≡ None →
     IsTaken k id taken → IsTriedSo taken (λ m. granted_at m (known_place (message_at (kept_of k) id).known)) new →

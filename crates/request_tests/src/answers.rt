@@ -50,7 +50,9 @@ const SETTLED: &[Turn] = &[
     Turn::Settled(Known::Taken, false),
     Turn::Answered(Known::Taken, "waits", 0),
     Turn::Answered(Known::Deleted, "removed", 1),
+    Turn::Answered(Known::ToldDeleted, "removed", 2),
     Turn::Answered(Known::Tried, "kept", 1),
+    Turn::Answered(Known::ToldDelivered, "kept", 3),
 ];
 
 const NOT_MATCHED: &[Turn] = &[

@@ -76,10 +76,9 @@ pub fn taken(rt: &impl Abort, alloc: Global) -> Chain {
     chain.expect(rt, "a chain")
 }
 
-// Its chain with a decree of the first node behind it.
-fn behind(rt: &impl Abort, alloc: Global, kind: Kind) -> Chain {
-    let taken = taken(rt, alloc);
-    let chain = taken.extended(Decree {
+// A chain with a decree of the first node behind it.
+fn decided(rt: &impl Abort, chain: Chain, kind: Kind) -> Chain {
+    let longer = chain.extended(Decree {
         author: Author {
             node: NodeNo::of(1),
             incarnation: Incarnation::of(1),
@@ -87,8 +86,13 @@ fn behind(rt: &impl Abort, alloc: Global, kind: Kind) -> Chain {
         moment: after(rt, 1),
         kind,
     });
-    drop(taken);
-    chain.expect(rt, "a chain")
+    drop(chain);
+    longer.expect(rt, "a chain")
+}
+
+// Its chain when it was taken, with such a decree.
+fn behind(rt: &impl Abort, alloc: Global, kind: Kind) -> Chain {
+    decided(rt, taken(rt, alloc), kind)
 }
 
 // A query_sm of this account that waits under a ticket.
@@ -144,9 +148,11 @@ pub enum Known {
     Taken,
     Tried,
     Deleted,
+    ToldDeleted,
+    ToldDelivered,
 }
 
-// Its chain: as it was taken, with a first attempt, or deleted before any.
+// Its chain: as it was taken, with a first attempt, deleted before any, the same and the receipt on it told, or delivered, and that told.
 pub fn chain(rt: &impl Abort, alloc: Global, known: Known) -> Option<Chain> {
     match known {
         Known::Nothing => None,
@@ -155,6 +161,15 @@ pub fn chain(rt: &impl Abort, alloc: Global, known: Known) -> Option<Chain> {
         Known::Deleted => {
             let fate = Kind::Fate(Final::Deleted, ErrorCode::of(0));
             Some(behind(rt, alloc, fate))
+        }
+        Known::ToldDeleted => {
+            let fate = Kind::Fate(Final::Deleted, ErrorCode::of(0));
+            Some(decided(rt, behind(rt, alloc, fate), Kind::Told))
+        }
+        Known::ToldDelivered => {
+            let fate = Kind::Fate(Final::Delivered, ErrorCode::of(0));
+            let delivered = decided(rt, behind(rt, alloc, Kind::Attempt(1)), fate);
+            Some(decided(rt, delivered, Kind::Told))
         }
     }
 }

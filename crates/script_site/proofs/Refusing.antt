@@ -1,7 +1,7 @@
 -- Why the world does not take a step of the node that does something.
 use Rattle.std.proofs.Common.{◌≡◌, ℕ, Bool, true, false, List, [], Option, Some, None, Ok, Err, refl, length, ◌∷◌, sym, ap, subst, ◌∙◌}
 use Rattle.std.specs.Prelude.{IfSome, option_map, nat_le, if◌then◌else◌}
-use Rattle.mc_model.specs.message.Decree.{Attempt, Decree, Failed, Fate, Kind, Taken}
+use Rattle.mc_model.specs.message.Decree.{Attempt, Decree, Failed, Fate, Kind, Taken, Told}
 use Rattle.mc_model.specs.node.Grant.{AlreadyGranted, Closed, GrantRefusal, NotChosen, NotMine, OlderIncarnation, refusal_number}
 use Rattle.mc_model.specs.node.Setup.{Setup}
 use Rattle.mc_model.specs.cluster.Steps.{Cluster}
@@ -131,6 +131,7 @@ ends_so setup k id decrees allowed known =
     by_kind newest older (Taken message) is none = absurd cc
     by_kind newest older (Failed error) is none = absurd cc
     by_kind newest older (Fate final error) is none = absurd cc
+    by_kind newest older Told is none = absurd cc
 
     by_decrees : (decrees : List Decree) → known_refusal setup k (message_at k id) (Some decrees) ≡ None → EndsInAttempt decrees
     by_decrees [] none = absurd cc

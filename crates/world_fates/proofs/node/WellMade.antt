@@ -25,7 +25,7 @@ module _ (cluster : Cluster) (inputs : List NodeInput) (run : RunsTogether clust
 
   has_place : (slot : Slot) (chain : List Decree) → Standing world slot chain → IsPermitted slot.id chain → slot.place < most_places
   has_place slot chain stands permitted =
-      let short : length chain ≤ 18 = most_decrees slot.id chain permitted in
+      let short : length chain ≤ 19 = most_decrees slot.id chain permitted in
       let place : slot.place ≡ pred (length chain) = ap (λ (s : Slot). s.place) stands.place in
       omega (arith, short, place)
 

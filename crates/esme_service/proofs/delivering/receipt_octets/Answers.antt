@@ -18,5 +18,5 @@ pub returns-in-Err-Memory-clause-none : goal.returns-in-Err-Memory-clause-none
 returns-in-Err-Memory-clause-none c = λ none.
     let memory = c.in-Err-Memory.is ∙ ap Err c.in-Err-Memory.field-0-is in
     let fateless : HasFate c.args.chain.now.decrees → ⊥ = λ fate.
-    (let said = c.receipt_pdu.ensures.not_asked.1 (fate, λ asked. asked_reports c.args.chain.now.id c.args.chain.now.decrees asked none) in cc) in
+    (let said = c.receipt_pdu.ensures.not_asked.1 (fate, λ asked. asked_reports c.args.chain.now.id c.args.chain.now.decrees c.bounds.ensures.permitted asked none) in cc) in
     absurd (let said = c.receipt_pdu.ensures.no_fate.1 fateless in cc)
