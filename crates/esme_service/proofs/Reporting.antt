@@ -1,13 +1,14 @@
 -- The report of a chain of which a receipt was asked.
-use Rattle.std.proofs.Common.{◌≡◌, ℕ, ◌<◌, Bool, true, List, [], ◌∷◌, length, reverse, Option, Some, None, refl, sym, ap, ◌∙◌, arith}
+use Rattle.std.proofs.Common.{◌≡◌, ℕ, ◌<◌, Bool, true, false, List, [], ◌∷◌, length, reverse, Option, Some, None, refl, sym, ap, ◌∙◌, arith}
 use Rattle.std.proofs.lemmas.List.{length-reverse}
 use Rattle.std.specs.Prelude.{slice_get, option_map}
-use Rattle.mc_model.specs.message.Chain.{Chain, IsPermitted, taken_in, untold}
-use Rattle.mc_model.specs.message.Decree.{Decree, Fate, Kind}
+use Rattle.mc_model.specs.message.Chain.{Chain, IsPermitted, final_by, final_in, taken_in, untold}
+use Rattle.mc_model.specs.message.Decree.{Attempt, Decree, Failed, Fate, Final, Kind, Taken, Told}
 use Rattle.mc_model.specs.message.Submission.{Submission}
 use Rattle.mc_model.specs.message.Receipts.{AsksReceipt}
 use Rattle.node_model.specs.Answers.{is_asked}
 use Rattle.node_model.proofs.Receipts.{asked_decides}
+use Rattle.mc_parts.proofs.Fates.{state_of_untold}
 use Rattle.fate_chain.proofs.Untold.{ends_in_fate}
 use Rattle.receipts.specs.Receipts.{IsAsked, Reports}
 use Rattle.receipts.specs.Texts.{Report}
@@ -55,3 +56,38 @@ asked_reports id (newest ∷ older) permitted asked none =
     (ap (option_map (λ (d : Decree). d.moment)) oldest.1) asked.message ended.kind_is refl refl ((asked_decides asked.final asked.taken).1 asked.asks) in
     let same = ap (reported_by_fate id (began_at decrees) (taken_in decrees)) ended.chain_is ∙ reported in
     (let none = none in cc)
+
+-- What reports something was asked for a receipt.
+pub reports_asked : (id : ℕ) (decrees : List Decree) (report : Report) → reported_on id decrees ≡ Some report → IsAsked decrees
+reports_asked id decrees report is = by_untold (untold decrees) (state_of_untold decrees) is
+  where
+    by_asked : (asked : Bool) (made : Report) → is_asked made.final made.taken ≡ asked → final_in decrees ≡ Some made.final →
+        taken_in decrees ≡ Some made.taken → report_if asked made ≡ Some report → IsAsked decrees
+    by_asked true made asks ends takes is =
+        record { final = made.final; taken = made.taken; ends = ends; message = takes; asks = (asked_decides made.final made.taken).0 asks }
+    by_asked false made asks ends takes is = absurd cc
+
+    by_kind : (began : Option ℕ) (taken : Option Submission) (ended : ℕ) (kind : Kind) (below : Option Final) → taken_in decrees ≡ taken →
+        final_by kind below ≡ final_in decrees → reported_as id began taken ended kind ≡ Some report → IsAsked decrees
+    by_kind (Some began) (Some taken) ended (Fate final error) below takes state is =
+        by_asked (is_asked final taken)
+        (record { id = id; taken = taken; began = began; final = final; error = error; ended = ended }) refl (sym state) takes is
+    by_kind None taken ended kind below takes state is = absurd cc
+    by_kind (Some began) None ended kind below takes state is = absurd cc
+    by_kind (Some began) (Some taken) ended (Taken message) below takes state is = absurd cc
+    by_kind (Some began) (Some taken) ended (Attempt number) below takes state is = absurd cc
+    by_kind (Some began) (Some taken) ended (Failed error) below takes state is = absurd cc
+    by_kind (Some began) (Some taken) ended Told below takes state is = absurd cc
+
+    by_untold : (chain : List Decree) → final_in chain ≡ final_in decrees →
+        reported_by_fate id (began_at decrees) (taken_in decrees) chain ≡ Some report → IsAsked decrees
+    by_untold [] state is = absurd cc
+    by_untold (newest ∷ older) state is = by_kind (began_at decrees) (taken_in decrees) newest.moment newest.kind (final_in older) refl state is
+
+-- So if none was asked, it reports nothing.
+pub reports_nothing : (id : ℕ) (decrees : List Decree) → (IsAsked decrees → ⊥) → reported_on id decrees ≡ None
+reports_nothing id decrees unasked = by_report (reported_on id decrees) refl
+  where
+    by_report : (found : Option Report) → reported_on id decrees ≡ found → reported_on id decrees ≡ None
+    by_report None is = is
+    by_report (Some report) is = absurd (unasked (reports_asked id decrees report is))

@@ -51,7 +51,8 @@ pub(crate) fn receipt_octets(
     match receipt_pdu(alloc, chain, pushed.sequence) {
         Ok(pdu) => Ok(Some(encoded(alloc, fitted(alloc, pushed, pdu))?)),
         Err(ReceiptFault::Memory) => Err(AllocError),
-        Err(ReceiptFault::NoFate | ReceiptFault::NotAsked) => Ok(None),
+        Err(ReceiptFault::NoFate) => Ok(None),
+        Err(ReceiptFault::NotAsked) => Ok(None),
     }
 }
 
