@@ -131,8 +131,7 @@ module _ (node : ℕ) (w : World) (h : Holds w) (ticket id : ℕ) (chain : List 
   shown_so =
       let is : Chosen w id chain = known_chosen w h.keeps node id chain knows in
       let some : 1 ≤ length chain = not_empty w h.keeps h.links id chain is in
-      let same = fate_longest w h id d.chain chain final (chosen_so node w h id final d) is d.ends (longer (length d.chain) (length chain) some far) in
-      ap final_in same ∙ d.ends
+      fate_longest w h id d.chain chain final (chosen_so node w h id final d) is d.ends (longer (length d.chain) (length chain) some far)
     where
       longer : (a b : ℕ) → 1 ≤ b → pred a ≤ pred b → a ≤ b
       longer a b some long = omega (arith, some, long)
