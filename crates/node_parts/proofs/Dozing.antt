@@ -212,7 +212,8 @@ module _ (old : Option Noted) (held : Noted) (me : Author) (up : List (List ℕ)
   dozed_ids live = mapped_ids (dozed entries me (is_up up) clock) (λ l. refl) live
 
 -- the shelf keeps what it has to keep
-pub shelf_dozed : (old : Option Noted) (held : Noted) (entries : List (ℕ × Filed)) (live new : List Listing) (ids : List ℕ) (room more until : ℕ) (clock : Option ℕ) →
+pub shelf_dozed : (old : Option Noted) (held : Noted) (entries : List (ℕ × Filed)) (live new : List Listing) (ids : List ℕ) (room more until : ℕ)
+    (clock : Option ℕ) →
     ((at : ℕ) → clock ≡ Some at → IsNoted old held.me held.up.items) → new ≡ map (dozed entries held.me (is_up held.up.items) clock) live → more ≡ room →
     AreAwake until new ids → AreListed entries (ids_of live) room → AreNoted old entries live →
     AreListed entries (ids_of new) more × (AreNoted (Some held) entries new × AreAwake until new ids)

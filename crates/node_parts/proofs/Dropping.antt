@@ -120,7 +120,8 @@ all_rest (e ∷ es) rise rests =
         let greater : nat_cmp id e.0 ≡ Greater = grind (arith, nat_tests) in
         rw greater found
 
-pub all_dropped : (ids : List ℕ) (entries : List (ℕ × Filed)) → AreRising (keys_of entries) → RunAmong entries ids → dropped ids entries ≡ map rested_entry entries
+pub all_dropped : (ids : List ℕ) (entries : List (ℕ × Filed)) → AreRising (keys_of entries) → RunAmong entries ids →
+    dropped ids entries ≡ map rested_entry entries
 all_dropped [] entries rise run = sym (all_rest entries rise (λ id m found. elim (run id m found) [ inl rests ↦ rests | inr none ↦ absurd none ]))
 all_dropped (n ∷ ns) entries rise run =
     all_dropped ns (dropped_at entries n) (subst AreRising (sym (keys_at entries n rise)) rise) (run_later entries n ns run) ∙ at_rested entries n rise

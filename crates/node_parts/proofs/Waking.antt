@@ -1,5 +1,6 @@
 -- Those that are awake, as messages are put, looked at and taken off the list.
-use Rattle.std.proofs.Common.{◌≡◌, ◌⊎◌, ℕ, suc, ◌<◌, ◌≤◌, Bool, true, false, cond, List, [], ◌∷◌, length, map, Option, Some, None, refl, sym, ap, subst, ◌∙◌, inl, inr, arith}
+use Rattle.std.proofs.Common.{◌≡◌, ◌⊎◌, ℕ, suc, ◌<◌, ◌≤◌, Bool, true, false, cond, List, [], ◌∷◌, length, map, Option, Some, None}
+use Rattle.std.proofs.Common.{refl, sym, ap, subst, ◌∙◌, inl, inr, arith}
 use Rattle.std.specs.Prelude.{◌==◌, ◌||◌, filter, is_some, if◌then◌else◌}
 use Rattle.std.specs.BTreeSet.{insert_key}
 use Rattle.std.specs.Option.{is_none}
@@ -56,7 +57,8 @@ all_stay test (y ∷ ys) all =
 pub asleep_late : (until clock moment : ℕ) → clock < until → until ≤ moment → is_past clock (Some moment) ≡ false
 asleep_late until clock moment before late = let more : clock < moment = omega (arith, before, late) in grind (arith, nat_tests)
 
-pub due_awake : (until : ℕ) (live : List Listing) (ids : List ℕ) → AreAwake until live ids → (clock : ℕ) → clock < until → (id : ℕ) → IsDueIn clock live id → In id ids
+pub due_awake : (until : ℕ) (live : List Listing) (ids : List ℕ) → AreAwake until live ids → (clock : ℕ) → clock < until → (id : ℕ) →
+    IsDueIn clock live id → In id ids
 due_awake until live ids are clock before id is = by_until is.listing.until refl
   where
     by_until : (moment : Option ℕ) → is.listing.until ≡ moment → In id ids
@@ -75,7 +77,8 @@ module _ (until : ℕ) (live : List Listing) (ids : List ℕ) (are : AreAwake un
   fewer_awake rise =
       no_more (insert_key nat_cmp ids id) (insert_key nat_cmp (ids_of live) id) (rise_put id ids are.rising) (rise_put id (ids_of live) rise) still_listed
 
-  pub awake_put : (new : List Listing) → AreWoken id live new → ids_of new ≡ insert_key nat_cmp (ids_of live) id → AreAwake until new (insert_key nat_cmp ids id)
+  pub awake_put : (new : List Listing) → AreWoken id live new → ids_of new ≡ insert_key nat_cmp (ids_of live) id →
+      AreAwake until new (insert_key nat_cmp ids id)
   awake_put new woken put = record {
     rising = rise_put id ids are.rising;
     listed = λ other among. subst (In other) (sym put) (still_listed other among);
@@ -151,7 +154,8 @@ module _ (look : Listing → Listing) (again : (l : Listing) → look (look l) �
       all_looked ids (looked_at look id live) keeps (λ l among. from_there l (mapped_from (λ x. if x.id == id then look x else x) live l among))
       ∙ looked_once id live
     where
-      by_test : (x : Listing) → In x live → (is : Bool) → (x.id == id) ≡ is → (look (if is then look x else x) ≡ (if is then look x else x)) ⊎ In (if is then look x else x).id ids
+      by_test : (x : Listing) → In x live → (is : Bool) → (x.id == id) ≡ is →
+          (look (if is then look x else x) ≡ (if is then look x else x)) ⊎ In (if is then look x else x).id ids
       by_test x among true is = inl (again x)
       by_test x among false is = elim (others x among) [
         | inl same ↦ inl same
@@ -191,7 +195,8 @@ at_soonest_below live (id ∷ ids) until =
     let rest = at_soonest_below live ids (sooner until (until_at live id)) in
     omega (arith, one, rest)
 
-pub soonest_of_these : (live : List Listing) (ids : List ℕ) (until id moment : ℕ) → In id ids → until_at live id ≡ Some moment → soonest_at live ids until ≤ moment
+pub soonest_of_these : (live : List Listing) (ids : List ℕ) (until id moment : ℕ) → In id ids → until_at live id ≡ Some moment →
+    soonest_at live ids until ≤ moment
 soonest_of_these live [] until id moment none sleeps = absurd none
 soonest_of_these live (n ∷ ns) until id moment (inl same) sleeps =
     let one = sooner_than until (until_at live n) moment (sym (ap (until_at live) same) ∙ sleeps) in
@@ -228,7 +233,8 @@ awake_gathered live last rise = record {
 -- ---- those that are awake are looked at
 
 module _ (look : Listing → Listing) (keeps : (l : Listing) → (look l).id ≡ l.id) (until : ℕ) (live : List Listing) (ids : List ℕ)
-    (rise : AreRising (ids_of live)) (are : AreAwake until live ids) (sleep : (l : Listing) (moment : ℕ) → until ≤ moment → l.until ≡ Some moment → look l ≡ l) where
+    (rise : AreRising (ids_of live)) (are : AreAwake until live ids)
+    (sleep : (l : Listing) (moment : ℕ) → until ≤ moment → l.until ≡ Some moment → look l ≡ l) where
   -- those that are asleep stay so
   pub asleep_stay : (l : Listing) → In l live → (look l ≡ l) ⊎ In l.id ids
   asleep_stay l among = by_until l.until refl

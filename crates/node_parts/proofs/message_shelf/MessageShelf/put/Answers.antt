@@ -34,7 +34,8 @@ put-requires-2-clause-room c =
     let put : c.put.new.self.entries ≡ with_value entries c.args.id (box_value c.args.message) = rw c.number.ensures.value at c.put.ensures.entries in
     let fits = room_to_list entries (ids_of c.self.inside.live.items) cap c.args.id (box_value c.args.message) c.self.invariant.0 more
     (subst (λ (es : List (ℕ × Filed)). IsStrictlySortedBy nat_cmp (keys_of es)) put c.ascends.ensures) in
-    let fewer = fewer_awake c.self.inside.awake.until c.self.inside.live.items c.self.inside.awake.ids.items c.self.invariant.1.1 c.args.id c.self.invariant.0.rising in
+    let s = c.self.inside in
+    let fewer = fewer_awake s.awake.until s.live.items s.awake.ids.items c.self.invariant.1.1 c.args.id c.self.invariant.0.rising in
     omega (arith, fits, fewer)
 
 pub invariant_of-self : goal.invariant_of-self
@@ -45,7 +46,8 @@ invariant_of-self c =
     let cap = min (vec_capacity s.live) (vec_capacity s.awake.ids) in
     let more : 0 < cap - length entries = rw (← c.self.view_is) at c.requires.listings in
     let put : c.put.new.self.entries ≡ with_value entries c.args.id (box_value c.args.message) = rw c.number.ensures.value at c.put.ensures.entries in (
-      subst (λ (n : ℕ). AreListed c.put.new.self.entries (ids_of c.enlist.new.live.items) n) (sym (λ i. min (c.enlist.ensures.capacity i) (c.put-2.ensures.capacity i)))
+      subst (λ (n : ℕ). AreListed c.put.new.self.entries (ids_of c.enlist.new.live.items) n)
+          (sym (λ i. min (c.enlist.ensures.capacity i) (c.put-2.ensures.capacity i)))
           (subst (λ (ls : List ℕ). AreListed c.put.new.self.entries ls cap) (sym c.enlist.ensures.ids)
           (subst (λ (es : List (ℕ × Filed)). AreListed es (insert_key nat_cmp ids c.args.id) cap) (sym put)
           (listed_put entries ids cap c.args.id (box_value c.args.message) c.self.invariant.0 more))),
