@@ -346,7 +346,11 @@ fn a_message_ended_with_its_fate(rt: HostRuntime) {
     let ended = chain.newest_untold().moment.seconds();
     let (fate, place) = (chain.fate(), chain.place());
     drop(chain);
-    assert_same(&rt, &(fate, ended, place), &(Some(Final::Deleted), TAKEN, 2));
+    assert_same(
+        &rt,
+        &(fate, ended, place),
+        &(Some(Final::Deleted), TAKEN, 2),
+    );
 }
 
 #[test]
@@ -644,6 +648,7 @@ fn changed_octets_are_judged(rt: HostRuntime) {
 const FATE: [u8; 11] = [
     0x04, 0x01, 0x00, 0x01, 0x38, 0x6d, 0x43, 0x80, 0x04, 0x03, 0xe7,
 ];
+
 const TELLING: [u8; 8] = [0x05, 0x01, 0x00, 0x03, 0x38, 0x6d, 0x43, 0x87];
 
 // A chain of one decree with these behind it, so many in all.
@@ -671,7 +676,12 @@ fn a_chain_that_is_told_is_its_octets(rt: HostRuntime) {
     assert_spelled(&rt, chain_of(&rt, alloc, TOLD), &octets);
     assert_spelled(&rt, read(&rt, alloc, &octets), &octets);
     let shows = "a Told is read";
-    assert_stands(&rt, shows, read(&rt, alloc, &octets), (3, State::Deleted, 999));
+    assert_stands(
+        &rt,
+        shows,
+        read(&rt, alloc, &octets),
+        (3, State::Deleted, 999),
+    );
     drop(octets);
 }
 
@@ -795,5 +805,10 @@ fn a_chain_of_eight_attempts_is_copied(rt: HostRuntime) {
 #[test]
 fn a_chain_of_eight_attempts_is_read(rt: HostRuntime) {
     let chain = read(&rt, rt.alloc(), &TRIED_CHAIN);
-    assert_stands(&rt, "eight attempts", chain, (18, State::Undeliverable, 999));
+    assert_stands(
+        &rt,
+        "eight attempts",
+        chain,
+        (18, State::Undeliverable, 999),
+    );
 }
