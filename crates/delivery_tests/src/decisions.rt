@@ -217,7 +217,13 @@ fn nothing_is_due_while_an_attempt_is_open(rt: HostRuntime) {
 
 #[test]
 fn nothing_is_due_behind_a_told(rt: HostRuntime) {
-    let found = due_after(&rt, rt.alloc(), TOLD_DELIVERED, 1, (Done::Nothing, Up::Sme1));
+    let found = due_after(
+        &rt,
+        rt.alloc(),
+        TOLD_DELIVERED,
+        1,
+        (Done::Nothing, Up::Sme1),
+    );
     assert_same(&rt, &found, &Some(2_395_785_599));
 }
 
