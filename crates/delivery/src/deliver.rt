@@ -16,7 +16,8 @@ use std::alloc::{AllocError, Global};
 const FEATURES: u8 = 0xc0;
 
 /// The deliver_sm (SMPP 3.4, section 4.6.1) of the attempt that is the chain's newest decree, with this sequence_number: what was
-/// taken, with its optional parameters. A text of more than 254 octets is its message_payload, before them. NoAttempt exactly if the newest decree is no attempt, before any memory is taken.
+/// taken, with its optional parameters. A text of more than 254 octets is its message_payload, before them. NoAttempt exactly if the newest decree is
+/// no attempt, before any memory is taken.
 pub fn deliver_pdu(alloc: Global, chain: &Chain, sequence: u32) -> Result<Pdu, DeliverFault>
     ensures pdu { IfOk result (IsDelivery chain.now.decrees sequence) }
     ensures refused { IsErrOf result NoAttempt ↔ (EndsInAttempt chain.now.decrees → ⊥) }

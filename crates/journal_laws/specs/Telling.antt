@@ -58,8 +58,8 @@ pub record StandInOneLife (node : ℕ) (first second : Entry) (entries : List En
   pub split : entries ≡ older ++ first ∷ (middle ++ second ∷ newer)
   pub lives : LivesOn node middle
 
--- A chain ends in the fate DELIVERED, told or not, behind an attempt of the same author. One of these entries granted that attempt at its author's node; a later one
--- took its answer ESME_ROK there, in the same life of the node.
+-- A chain ends in the fate DELIVERED, told or not, behind an attempt of the same author. One of these entries granted that attempt at its author's
+-- node; a later one took its answer ESME_ROK there, in the same life of the node.
 pub record StandsOnAnAttempt (id : ℕ) (chain : List Decree) (entries : List Entry) : Type 0 where
   pub fate : Decree
   pub attempt : Decree

@@ -22,8 +22,8 @@ pub(crate) struct BerthGate<'a> {
 }
 
 impl BerthGate<'_> {
-    /// The octets as the ESME is to get them: without optional parameters, if it knows none. None if there is no memory for them, or if its text would be one of
-    /// those.
+    /// The octets as the ESME is to get them: without optional parameters, if it knows none. None if there is no memory for them, or if its text
+    /// would be one of those.
     fn fitted(&self, octets: &[u8]) -> Option<Vec<u8>> {
         if self.knows_optional {
             return octets.to_vec(self.alloc).ok();

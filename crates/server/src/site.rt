@@ -243,8 +243,8 @@ impl Site {
     }
 
     /// An attempt may be granted: it is given to a worker of the lowest numbered session of its account that has a place in its window. Nothing comes of it if
-    /// no session has. A text that is too long for a short_message needs a session that knows optional parameters; if the account has none, any session gets it,
-    /// whose worker lets it fail. An `Err` is want of memory.
+    /// no session has. A text that is too long for a short_message needs a session that knows optional parameters; if the account has none, any
+    /// session gets it, whose worker lets it fail. An `Err` is want of memory.
     pub(crate) fn offer<R: Wait>(&mut self, rt: &R, attempt: Attempt) -> Result<(), AllocError> {
         let Attempt {
             slot,

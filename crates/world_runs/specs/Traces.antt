@@ -149,8 +149,8 @@ pub record IsAnswered (event : Event) (node : ℕ) (slot : Slot) : Type 0 where
   pub given : Given
   pub is : event ≡ Tried (steps.Answered node slot outcomes.Delivered) (Ok given)
 
--- A chain ends in the fate DELIVERED, told or not, behind an attempt of the same author. By these events, the first of them first, that attempt was granted at its
--- author's node, and then, in the same life of the node, answered there by ESME_ROK.
+-- A chain ends in the fate DELIVERED, told or not, behind an attempt of the same author. By these events, the first of them first, that attempt was
+-- granted at its author's node, and then, in the same life of the node, answered there by ESME_ROK.
 pub record StandsOnAnAttempt (id : ℕ) (chain : List Decree) (events : List Event) : Type 0 where
   pub fate : Decree
   pub attempt : Decree
