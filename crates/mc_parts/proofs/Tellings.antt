@@ -2,9 +2,12 @@
 use Rattle.std.proofs.Common.{◌≡◌, ℕ, List, [], ◌∷◌, Option, Some, None, refl, ◌∙◌, subst}
 use Rattle.mc_model.specs.message.Ids.{node_of}
 use Rattle.mc_model.specs.message.Submission.{Submission}
-use Rattle.mc_model.specs.message.Decree.{Decree, Author, Kind, Taken, Attempt, Failed, Fate, Told}
+use Rattle.mc_model.specs.message.Decree.{Decree, Author, Kind, Final, Taken, Attempt, Failed, Fate, Told}
 use Rattle.mc_model.specs.message.Neighbours.{MayBegin, MayFollow}
-use Rattle.mc_model.specs.message.Chain.{IsPermitted, MayExtend, attempts_in, home_by, home_in, taken_in}
+use Rattle.mc_model.specs.message.Chain.{IsPermitted, MayExtend, attempts_in, final_by, final_in, home_by, home_in, taken_in}
+use Rattle.mc_model.specs.node.Actor.{Actor}
+use Rattle.mc_model.specs.node.Knowledge.{Knows}
+use Rattle.mc_model.specs.node.Causes.{CausesTold}
 use Rattle.mc_parts.specs.Telling.{TellsAFate}
 
 -- no decree but the first takes the message
@@ -81,3 +84,35 @@ pub told_stands : (id : ℕ) (told : Decree) (older : List Decree) → IsPermitt
 told_stands id told [] permitted is = absurd (begins id told.author told.moment told.kind is permitted)
 told_stands id told (fate ∷ oldest) permitted is =
     extends id told fate oldest _ is refl (home_is_named id (fate ∷ oldest) permitted.0) permitted.1
+
+-- ---- behind a fate alone
+
+fate_below : (message : Submission) (home attempt : ℕ) (old : Author) (before : ℕ) (kind : Kind) (author : Author) (moment : ℕ) (older : Option Final) →
+    MayFollow message home attempt old before kind author moment Told → (final : Final) × (final_by kind older ≡ Some final)
+fate_below message home attempt old before (Taken taken) author moment older may = absurd may
+fate_below message home attempt old before (Attempt number) author moment older may = absurd may
+fate_below message home attempt old before (Failed error) author moment older may = absurd may
+fate_below message home attempt old before (Fate final error) author moment older may = (final, refl)
+fate_below message home attempt old before Told author moment older may = absurd may
+
+-- what a Told may follow has a final state
+pub told_behind_fate : (taken : Option Submission) (decrees : List Decree) (told : Decree) → told.kind ≡ Told → MayExtend taken decrees told →
+    (final : Final) × (final_in decrees ≡ Some final)
+told_behind_fate None decrees told is may = absurd may
+told_behind_fate (Some message) [] told is may = absurd may
+told_behind_fate (Some message) (newest ∷ older) told is may =
+    fate_below message (home_in (newest ∷ older)) (attempts_in (newest ∷ older)) newest.author newest.moment newest.kind told.author told.moment
+    (final_in older)
+    (subst (λ (kind : Kind). MayFollow message (home_in (newest ∷ older)) (attempts_in (newest ∷ older)) newest.author newest.moment newest.kind
+    told.author told.moment kind) is may.1)
+
+-- ---- no receipt is to be told
+
+-- if what is known now was known before
+pub unannounced : (nodes node : ℕ) (before after : Actor) (id place : ℕ) (chain : List Decree) →
+    ((known : List Decree) → Knows nodes after.received id known → Knows nodes before.received id known) → CausesTold nodes node before after id place chain →
+    ⊥
+unannounced nodes node before after id place chain knew told =
+    let further = told.due.further in
+    let fate = told_behind_fate (Some further.taken) (further.newest ∷ further.older) _ refl told.due.may in
+    told.new (further.newest ∷ further.older) fate.0 (knew (further.newest ∷ further.older) further.known) fate.1

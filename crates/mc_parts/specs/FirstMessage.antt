@@ -1,7 +1,7 @@
 -- The message of the worked rows, which is the first of the node 1, and its chains.
 use Rattle.std.specs.Prelude.{ℕ, List, [], ◌∷◌}
 use Rattle.mc_model.specs.message.Submission.{Address, Submission}
-use Rattle.mc_model.specs.message.Decree.{Attempt, Decree, Delivered, Fate, Kind, Taken}
+use Rattle.mc_model.specs.message.Decree.{Attempt, Decree, Delivered, Fate, Kind, Taken, Told}
 
 -- 2024-01-31T00:00:00Z, and the account sme1
 abbrev pub midnight : ℕ
@@ -49,3 +49,6 @@ attempted = decreed (Attempt 1) ∷ taken
 
 abbrev pub delivered : List Decree
 delivered = decreed (Fate Delivered 0) ∷ attempted
+
+abbrev pub told : List Decree
+told = decreed Told ∷ delivered

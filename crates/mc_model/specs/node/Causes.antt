@@ -1,7 +1,8 @@
 -- What starts a round outside a tick, what is asked, and when a round goes on to propose.
-use Rattle.std.specs.Prelude.{◌≡◌, ◌⊎◌, ℕ, true, List, ◌∷◌}
+use Rattle.std.specs.Prelude.{◌≡◌, ◌⊎◌, ℕ, true, List, ◌∷◌, Some}
 use Rattle.mc_model.specs.message.Submission.{Submission}
-use Rattle.mc_model.specs.message.Decree.{Decree}
+use Rattle.mc_model.specs.message.Decree.{Decree, Final, Told}
+use Rattle.mc_model.specs.message.Chain.{final_in}
 use Rattle.mc_model.specs.synod.Lists.{In}
 use Rattle.mc_model.specs.synod.Majority.{Majority}
 use Rattle.mc_model.specs.synod.OneSlot.{Vote}
@@ -13,7 +14,7 @@ use Rattle.mc_model.specs.node.Concerns.{Concerns}
 use Rattle.mc_model.specs.node.Settling.{HasTold}
 use Rattle.mc_model.specs.node.Proposal.{IsFirst}
 use Rattle.mc_model.specs.node.Rounds.{IsPromised, IsRunning}
-use Rattle.mc_model.specs.node.Rules.{FitsDelete, GoesFurther, IsAhead, IsHighest, ToldBy}
+use Rattle.mc_model.specs.node.Rules.{FitsDelete, GoesFurther, IsAhead, IsDue, IsHighest, ToldBy}
 use Rattle.mc_model.specs.node.Input.{Arrival, Delivery, Input, Response}
 
 -- A submit_sm comes: its message is to be taken.
@@ -63,13 +64,19 @@ pub record CausesDelete (nodes node : ℕ) (before a : Actor) (id place : ℕ) (
   pub new : WasSettled before deletes.cancelled.waiting.ticket →
       Knows nodes before.received id (deletes.further.newest ∷ deletes.further.older) → ⊥
 
+-- A final state becomes known, of which the node has to tell the receipt.
+pub record CausesTold (nodes node : ℕ) (before a : Actor) (id place : ℕ) (chain : List Decree) : Type 0 where
+  pub due : IsDue nodes node a id place chain Told
+  pub new : (older : List Decree) (final : Final) → Knows nodes before.received id older → final_in older ≡ Some final → ⊥
+
 -- a round is to be started at a place, for a chain
 abbrev pub Causes : ℕ → ℕ → Actor → Actor → Input → ℕ → ℕ → List Decree → Type 0
 Causes nodes node before a input id place chain =
     CausesTake input node a id place chain
     ⊎ (CausesClose nodes node a input id place chain
     ⊎ (CausesFollow nodes node before a input id place chain
-    ⊎ CausesDelete nodes node before a id place chain))
+    ⊎ (CausesDelete nodes node before a id place chain
+    ⊎ CausesTold nodes node before a id place chain)))
 
 -- ---- questions
 

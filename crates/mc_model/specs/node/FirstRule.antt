@@ -1,6 +1,6 @@
 -- The rules of a tick in their order, of which the first that fits starts a round (own).
 use Rattle.std.specs.Prelude.{ℕ, ◌<◌, Bool, List}
-use Rattle.mc_model.specs.message.Decree.{Decree, Expired, Fate}
+use Rattle.mc_model.specs.message.Decree.{Decree, Expired, Fate, Told}
 use Rattle.mc_model.specs.synod.Acceptor.{Records}
 use Rattle.mc_model.specs.node.Actor.{Actor}
 use Rattle.mc_model.specs.node.Rules.{
@@ -17,7 +17,7 @@ use Rattle.mc_model.specs.node.Rules.{
 
 -- The rules of a tick, in their order: a submit_sm waits; a vote stands beyond what is known; an attempt of the node was closed;
 -- one of an older incarnation is lost; one that was not granted has no target that is up; a cancel_sm waits; the message
--- expires; eight attempts failed; the next attempt is due.
+-- expires; eight attempts failed; the next attempt is due; the receipt on its fate is to be told.
 pub data Rule : Type 0 where
   Take : Rule
   Follow : Rule
@@ -28,6 +28,7 @@ pub data Rule : Type 0 where
   Expire : Rule
   Undeliver : Rule
   Try : Rule
+  Announce : Rule
 
 abbrev pub order_of : Rule → ℕ
 order_of Take = 1
@@ -39,6 +40,7 @@ order_of Delete = 6
 order_of Expire = 7
 order_of Undeliver = 8
 order_of Try = 9
+order_of Announce = 10
 
 -- by a rule a round is to be started at a place, for a chain
 abbrev pub FitsRule : ℕ → ℕ → Actor → Records → (List ℕ → Bool) → ℕ → ℕ → List Decree → Rule → Type 0
@@ -51,6 +53,7 @@ FitsRule nodes node a records up id place chain Delete = FitsDelete nodes node a
 FitsRule nodes node a records up id place chain Expire = IsDue nodes node a id place chain (Fate Expired 0)
 FitsRule nodes node a records up id place chain Undeliver = FitsUndeliver nodes node a id place chain
 FitsRule nodes node a records up id place chain Try = FitsTry nodes node a up id place chain
+FitsRule nodes node a records up id place chain Announce = IsDue nodes node a id place chain Told
 
 -- the first rule that fits
 pub record IsFirstRule (nodes node : ℕ) (a : Actor) (records : Records) (up : List ℕ → Bool) (id place : ℕ) (chain : List Decree)

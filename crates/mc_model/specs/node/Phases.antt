@@ -1,17 +1,14 @@
 -- Which acts are due in a step besides those of its input.
-use Rattle.std.specs.Prelude.{◌≡◌, ℕ, suc, ◌+◌, ◌≤◌, false, List, Option, Some}
+use Rattle.std.specs.Prelude.{◌≡◌, ℕ, suc, ◌+◌, ◌≤◌, false, List, Option}
 use Rattle.mc_model.specs.message.Ids.{node_of}
-use Rattle.mc_model.specs.message.Submission.{Submission}
-use Rattle.mc_model.specs.message.Decree.{Decree, Final}
-use Rattle.mc_model.specs.message.Receipts.{AsksReceipt}
-use Rattle.mc_model.specs.message.Chain.{final_in, taken_in}
+use Rattle.mc_model.specs.message.Decree.{Decree}
 use Rattle.mc_model.specs.synod.Lists.{In}
 use Rattle.mc_model.specs.synod.Acceptor.{Records}
 use Rattle.mc_model.specs.node.Actor.{Actor, Cancel, Query, Request, Submit, Waiting, id_in, name_of}
 use Rattle.mc_model.specs.node.Room.{IsWaiting}
 use Rattle.mc_model.specs.node.Knowledge.{IsKnown, Knows}
 use Rattle.mc_model.specs.node.Settling.{IsSettled}
-use Rattle.mc_model.specs.node.Replies.{Answer, FitsRequest, TooLate, longest_wait}
+use Rattle.mc_model.specs.node.Replies.{Answer, FitsRequest, IsToldBy, TooLate, longest_wait}
 use Rattle.mc_model.specs.node.Act.{Abandons, Act, Asks, Prepares, Proposes, Replies, Reports, Settles}
 use Rattle.mc_model.specs.node.Rounds.{IsForRound, MayPrepare}
 use Rattle.mc_model.specs.node.FirstRule.{GiveUp, IsFirstRule, Rule}
@@ -83,16 +80,12 @@ abbrev pub DueToReply : ℕ → ℕ → Actor → Act → Type 0
 DueToReply nodes node a (Replies ticket id answer) = IsDueReply nodes node a ticket id answer
 DueToReply nodes node a act = ⊥
 
--- a receipt is due where the node that the id names learns a final state of which one was asked
+-- a receipt is due as the node that the id names learns a chain that ends in its Told of this incarnation
 pub record IsDueReport (nodes node : ℕ) (before a : Actor) (id : ℕ) (chain : List Decree) : Type 0 where
-  pub final : Final
-  pub taken : Submission
   pub named : node_of id ≡ node
   pub known : Knows nodes a.received id chain
-  pub ends : final_in chain ≡ Some final
-  pub message : taken_in chain ≡ Some taken
-  pub asked : AsksReceipt final taken
-  pub new : (older : List Decree) (other : Final) → Knows nodes before.received id older → final_in older ≡ Some other → ⊥
+  pub told : IsToldBy node a chain
+  pub new : Knows nodes before.received id chain → ⊥
 
 abbrev pub DueToReport : ℕ → ℕ → Actor → Actor → Act → Type 0
 DueToReport nodes node before a (Reports id chain) = IsDueReport nodes node before a id chain

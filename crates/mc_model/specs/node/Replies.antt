@@ -3,7 +3,7 @@
 use Rattle.std.specs.Prelude.{◌≡◌, ℕ, ◌+◌, ◌≤◌, true, List, ◌∷◌, Option, Some, None}
 use Rattle.mc_model.specs.message.Ids.{node_of}
 use Rattle.mc_model.specs.message.Submission.{Submission}
-use Rattle.mc_model.specs.message.Decree.{Decree, Deleted, Delivered, Expired, Failed, Final, Kind, Rejected, Taken, Undeliverable}
+use Rattle.mc_model.specs.message.Decree.{Decree, Deleted, Delivered, Expired, Failed, Final, Kind, Rejected, Taken, Told, Undeliverable}
 use Rattle.mc_model.specs.message.Chain.{final_in, taken_in}
 use Rattle.mc_model.specs.node.Actor.{Actor, Cancel, Query, Request, Submit, Waiting, id_in, name_of}
 use Rattle.mc_model.specs.node.Room.{IsWaiting}
@@ -131,9 +131,16 @@ pub record MayReply (nodes node : ℕ) (a : Actor) (ticket id : ℕ) (answer : A
   pub asked : IsWaiting a id ticket
   pub fits : IsAnswer nodes node a asked.waiting answer
 
--- a receipt is written by the node that the id names
+-- a chain ends in a Told of the node, in this incarnation
+pub record IsToldBy (node : ℕ) (a : Actor) (chain : List Decree) : Type 0 where
+  pub told : Decree
+  pub older : List Decree
+  pub chain_is : chain ≡ told ∷ older
+  pub kind : told.kind ≡ Told
+  pub author : told.author ≡ record { node = node; incarnation = a.incarnation }
+
+-- a receipt is written by the node that the id names, on a Told of its own in this incarnation
 pub record MayReport (nodes node : ℕ) (a : Actor) (id : ℕ) (chain : List Decree) : Type 0 where
-  pub final : Final
   pub named : node_of id ≡ node
   pub known : Knows nodes a.received id chain
-  pub ends : final_in chain ≡ Some final
+  pub told : IsToldBy node a chain
