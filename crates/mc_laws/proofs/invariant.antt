@@ -15,6 +15,7 @@ pub mod OwnDecrees
 pub mod Rooms
 pub mod Stopping
 pub mod Reached
+pub mod Receipts
 pub mod Answers
 pub mod Deletions
 pub mod Deeds

@@ -1,5 +1,7 @@
 pub mod Together
 pub mod Behind
 pub mod Decided
+pub mod OneReceipt
+pub mod Announced
 pub mod Assembly
 pub mod Openings

@@ -1,5 +1,6 @@
 pub mod Rounds
 pub mod Delivery
+pub mod Untold
 pub mod FirstStep
 pub mod Restarts
 pub mod Questions

@@ -12,7 +12,7 @@ use Rattle.mc_laws.specs.Stories.{
   by_node_1,
   deleted_chain,
   delivered_chain,
-  delivery_acts,
+  delivering_acts,
   first_ballot,
   first_id,
   round_for,
@@ -43,7 +43,7 @@ query_acts message =
     Replies 2 first_id (Shown (delivered_chain message))
     ∷ question_for (delivered_chain message)
     ++ Begins 2 (Query first_id message.submitter message.source.digits)
-    ∷ delivery_acts message
+    ∷ delivering_acts message
 
 abbrev pub query_story : Submission → List (ℕ × Act)
 query_story message = map by_node_1 (query_acts message)

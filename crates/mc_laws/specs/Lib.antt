@@ -6,3 +6,4 @@ pub mod TickStories
 pub mod CancelStories
 pub mod QueryStories
 pub mod ClusterStories
+pub mod Receipts

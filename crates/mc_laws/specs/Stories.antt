@@ -1,7 +1,7 @@
 -- What may happen: a cluster of one node takes a message, delivers it and says so.
 use Rattle.std.specs.Prelude.{ℕ, ◌<◌, ◌≤◌, List, [], ◌∷◌, ◌++◌, map, None, true}
 use Rattle.mc_model.specs.cluster.World.{World, Deed, start}
-use Rattle.mc_model.specs.message.Decree.{Decree, Kind, Taken, Attempt, Fate, Delivered, Deleted}
+use Rattle.mc_model.specs.message.Decree.{Decree, Kind, Taken, Attempt, Fate, Told, Delivered, Deleted}
 use Rattle.mc_model.specs.message.Submission.{Submission}
 use Rattle.mc_model.specs.node.Act.{
   Act,
@@ -44,6 +44,9 @@ attempted_chain message = decreed (Attempt 1) ∷ taken_chain message
 abbrev pub delivered_chain : Submission → List Decree
 delivered_chain message = decreed (Fate Delivered 0) ∷ attempted_chain message
 
+abbrev pub told_chain : Submission → List Decree
+told_chain message = decreed Told ∷ delivered_chain message
+
 abbrev pub deleted_chain : Submission → List Decree
 deleted_chain message = decreed (Fate Deleted 0) ∷ taken_chain message
 
@@ -71,15 +74,18 @@ taking_acts message =
     ++ Begins 1 (Submit first_id message)
     ∷ []
 
--- Then an attempt is begun, granted and answered ESME_ROK; the message is delivered, and the receipt goes out.
-abbrev pub delivery_acts : Submission → List Act
-delivery_acts message =
-    Reports first_id (delivered_chain message)
-    ∷ round_for (delivered_chain message)
+-- Then an attempt is begun, granted and answered ESME_ROK, and the message is delivered.
+abbrev pub delivering_acts : Submission → List Act
+delivering_acts message =
+    round_for (delivered_chain message)
     ++ Concludes (slot_of first_id (attempted_chain message)) (Concluded Delivered 0)
     ∷ Grants (slot_of first_id (attempted_chain message))
     ∷ round_for (attempted_chain message)
     ++ taking_acts message
+
+-- Its receipt is told, and goes out.
+abbrev pub delivery_acts : Submission → List Act
+delivery_acts message = Reports first_id (told_chain message) ∷ round_for (told_chain message) ++ delivering_acts message
 
 abbrev pub by_node_1 : Act → ℕ × Act
 by_node_1 act = (1, act)
@@ -89,7 +95,7 @@ delivery_story message = map by_node_1 (delivery_acts message)
 
 -- the deed with which it ends
 abbrev pub last_deed : Submission → Deed
-last_deed message = record { node = 1; incarnation = 1; act = Reports first_id (delivered_chain message) }
+last_deed message = record { node = 1; incarnation = 1; act = Reports first_id (told_chain message) }
 
 -- a cluster of one node, whose messages are counted from 1
 abbrev pub one_node : World

@@ -1,7 +1,8 @@
 //! The headline, over runs and over every list of steps.
 
 ghost use Rattle.std.specs.Prelude.{◌≡◌, ◌∷◌, ◌++◌, ℕ, List, Some};
-ghost use Rattle.mc_model.specs.message.Decree.{Final, Delivered};
+ghost use Rattle.mc_model.specs.message.Decree.{Decree, Final, Delivered};
+ghost use Rattle.mc_model.specs.node.Act.{Reports};
 ghost use Rattle.mc_model.specs.synod.Lists.{In};
 ghost use Rattle.mc_model.specs.cluster.World.{Deed, Run, start};
 ghost use Rattle.mc_model.specs.cluster.Steps.{StepRun, world_after};
@@ -52,4 +53,11 @@ pub fn what_is_stated_is_chosen()
     ensures { (run : LooseRun) (stating : Deed) (id : ℕ) (final : Final) →
         In stating (end_of run).past →
         (states : States stating id final) → IsToldChosen (end_of run) id states.chain }
+{}
+
+/// Over every list of steps at most one delivery receipt goes out for each message_id, however often nodes stop and start anew.
+pub fn one_receipt_over_steps()
+    ensures { (run : StepRun) (first second : Deed) (id : ℕ) (one other : List Decree) →
+        CameBefore first second (world_after run).past →
+        first.act ≡ Reports id one → second.act ≡ Reports id other → ⊥ }
 {}

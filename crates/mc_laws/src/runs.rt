@@ -12,10 +12,12 @@ ghost use Rattle.mc_model.specs.node.Room.{most_waiting};
 ghost use Rattle.mc_model.specs.node.Replies.{Removed};
 ghost use Rattle.mc_model.specs.node.Act.{Concludes, Restarts, Stops, Abandons, Grants, Replies, Reports};
 ghost use Rattle.mc_model.specs.node.Concerns.{Concerns};
+ghost use Rattle.mc_model.specs.node.Knowledge.{Knows};
 ghost use Rattle.mc_model.specs.cluster.World.{Deed, cast, IsChosenIn, Run, past_of, world_of};
-ghost use Rattle.mc_model.specs.cluster.Fate.{States, deed_by};
+ghost use Rattle.mc_model.specs.cluster.Fate.{IsToldChosen, States, deed_by};
 ghost use Rattle.mc_model.specs.cluster.Loose.{LooseRun, end_of};
 ghost use Rattle.mc_model.specs.cluster.Decrees.{IsDeletion, HasItsError, IsTimely};
+ghost use Rattle.mc_laws.specs.Receipts.{EndsInItsTold};
 
 /// Once a chain is chosen at a ballot, every vote of its slot at that ballot or above carries it, across all starts anew and
 /// votes of which no packet told, in every loose run.
@@ -79,6 +81,18 @@ pub fn a_cancelled_message_is_deleted()
 pub fn receipts_are_of_the_node_of_the_id()
     ensures { (run : Run) (deed : Deed) (id : ℕ) (chain : List Decree) →
         In deed (past_of run) → deed.act ≡ Reports id chain → node_of id ≡ deed.node }
+{}
+
+/// A receipt is written on a chain that ends in a Told of the node that writes it, in that incarnation of it. That chain is chosen; and the node knows it
+/// then, and as long as it lives.
+pub fn a_receipt_stands_on_its_told()
+    ensures told { (run : Run) (deed : Deed) (id : ℕ) (chain : List Decree) →
+        In deed (past_of run) → deed.act ≡ Reports id chain → EndsInItsTold deed chain }
+    ensures chosen { (run : Run) (deed : Deed) (id : ℕ) (chain : List Decree) →
+        In deed (past_of run) → deed.act ≡ Reports id chain → IsToldChosen (world_of run) id chain }
+    ensures known { (run : Run) (deed : Deed) (id : ℕ) (chain : List Decree) →
+        In deed (past_of run) → deed.act ≡ Reports id chain → deed.incarnation ≡ ((world_of run).actors deed.node).incarnation →
+        Knows run.nodes ((world_of run).actors deed.node).received id chain }
 {}
 
 /// An attempt that was given up for want of a session was not granted by that node in that incarnation, neither before nor

@@ -1,16 +1,23 @@
 //! Steps of a node by itself, so that the laws over steps are not about nothing.
 
-ghost use Rattle.std.specs.Prelude.{◌+◌, ◌<◌, ◌≤◌, [], ◌∷◌, ℕ, List, None, true, false};
+ghost use Rattle.std.specs.Prelude.{◌≡◌, ◌+◌, ◌<◌, ◌≤◌, [], ◌∷◌, ◌++◌, ℕ, List, None, true, false};
 ghost use Rattle.mc_model.specs.message.Submission.{Submission};
 ghost use Rattle.mc_model.specs.message.Decree.{Decree, Delivered};
+ghost use Rattle.mc_model.specs.message.Receipts.{AsksReceipt};
 ghost use Rattle.mc_model.specs.synod.OneSlot.{Vote};
-ghost use Rattle.mc_model.specs.synod.Packet.{Prepare, Promise, slot_at, slot_of};
+ghost use Rattle.mc_model.specs.synod.Packet.{Prepare, Promise, Slot, Voted, slot_at, slot_of};
+ghost use Rattle.mc_model.specs.synod.Acceptor.{Records};
+ghost use Rattle.mc_model.specs.synod.Lists.{In};
 ghost use Rattle.mc_model.specs.node.Outcome.{Concluded};
-ghost use Rattle.mc_model.specs.node.Actor.{opening_clock};
+ghost use Rattle.mc_model.specs.node.Actor.{Actor, opening_clock};
+ghost use Rattle.mc_model.specs.node.Effect.{saved};
+ghost use Rattle.mc_model.specs.node.Setup.{Setup};
+ghost use Rattle.mc_model.specs.node.Step.{IsExact};
 ghost use Rattle.mc_model.specs.node.Room.{queue_full};
-ghost use Rattle.mc_model.specs.node.Act.{Concludes, Grants, Prepares, Promises, Receives, Restarts, Stops, Ticks};
+ghost use Rattle.mc_model.specs.node.Act.{Act, Concludes, Grants, Prepares, Promises, Receives, Restarts, Stops, Ticks};
 ghost use Rattle.mc_model.specs.node.Input.{Crash, Delivery, Grant, Refusal, Response, Restart, Tick};
 ghost use Rattle.mc_model.specs.node.Alone.{AreStepsAlone, IsStepAlone, Node, opened_new};
+ghost use Rattle.mc_laws.specs.Receipts.{HasToTell, MayTell, seen, starts_told};
 ghost use Rattle.mc_laws.specs.Stories.{
   deleted_chain,
   taken_slot,
@@ -21,6 +28,7 @@ ghost use Rattle.mc_laws.specs.Stories.{
   first_id,
   first_setup,
   taken_chain,
+  told_chain,
 };
 ghost use Rattle.mc_laws.specs.NodeStories.{all_up, among_three, first_attempt, knowing, node_of_actor, none_up, used_up};
 ghost use Rattle.mc_laws.specs.TickStories.{
@@ -53,8 +61,8 @@ ghost use Rattle.mc_laws.specs.QueryStories.{
 /// A tick comes, and by the first rule that fits a round is started. By what the chain ends in that a node knows: for the next
 /// attempt, for EXPIRED, for UNDELIVERABLE after eight failures with the error of the last, for the outcome of an attempt, for
 /// the
-/// failure of an attempt that an older incarnation made, and for that of one which finds no session, which is given up then. Or
-/// for a
+/// failure of an attempt that an older incarnation made, and for that of one which finds no session, which is given up then; and
+/// for the Told behind a fate of which a receipt is asked. Or for a
 /// submit_sm that waits, for a vote beyond what is known, and for a cancel_sm that waits.
 pub fn a_tick_starts_a_round()
     ensures attempt { (message : Submission) → MayBeTried message →
@@ -80,6 +88,9 @@ pub fn a_tick_starts_a_round()
         IsStepAlone first_setup (node_of_actor (knowing 1 opening_clock (attempted_chain message) [] []))
         (Tick opening_clock none_up) (giving_up 1 opening_clock (slot_of first_id (attempted_chain message))
         (given_up_chain message)) }
+    ensures announce { (message : Submission) → AsksReceipt Delivered message →
+        IsStepAlone first_setup (node_of_actor (knowing 1 opening_clock (delivered_chain message) [] []))
+        (Tick opening_clock all_up) (starting 1 opening_clock (told_chain message)) }
     ensures take { (message : Submission) →
         IsStepAlone first_setup (node_of_actor (taking_again message)) (Tick opening_clock all_up)
         (Prepares taken_slot again_ballot (taken_chain message) ∷ Ticks opening_clock ∷ []) }
@@ -154,4 +165,14 @@ pub fn a_tell_settles_a_query()
     ensures { (message : Submission) →
         IsStepAlone among_three (node_of_actor (asking_about message)) (Delivery (told_by_3 (second_vote message)))
         (showing message) }
+{}
+
+/// By a vote that comes the node that took a message first knows a fate of it, of which a receipt is asked: in that step it starts a round for its Told, if
+/// no round of the message runs.
+pub fn each_fate_that_asks_starts_a_round()
+    ensures { (setup : Setup) (a now : Actor) (records : Records) (acceptor : ℕ) (slot : Slot) (vote : Vote) (acts : List Act)
+        (exact : IsExact setup a records (Delivery (Voted acceptor slot vote)) acts) (id : ℕ) (fate : Decree) (older : List Decree) (ballot : ℕ) →
+        now ≡ seen setup a records (Delivery (Voted acceptor slot vote)) acts exact →
+        HasToTell setup a now id fate older → MayTell setup now (saved records exact.core) id fate older ballot →
+        In (starts_told setup now id fate older ballot) acts }
 {}

@@ -2,6 +2,7 @@
 
 ghost use Rattle.mc_model.specs.message.Submission.{Submission};
 ghost use Rattle.mc_model.specs.message.Decree.{Deleted, Delivered};
+ghost use Rattle.mc_model.specs.message.Receipts.{AsksReceipt};
 ghost use Rattle.mc_model.specs.synod.Lists.{In};
 ghost use Rattle.mc_model.specs.synod.Acceptor.{blank};
 ghost use Rattle.mc_model.specs.node.Actor.{Submit, opened};
@@ -27,9 +28,10 @@ ghost use Rattle.mc_laws.specs.StopStories.{accepting_deed, restart_story, until
 ghost use Rattle.mc_laws.specs.AnswerStories.{cancel_story, query_story, removing_deed, showing_deed};
 ghost use Rattle.mc_laws.specs.ClusterStories.{lone, taking_steps};
 
-/// A cluster of one node takes a message, attempts it, is answered, and states that it is DELIVERED.
+/// A cluster of one node takes a message of which a receipt is asked, attempts it, is answered, tells the receipt, and states that it is DELIVERED.
 pub fn a_message_is_delivered()
-    ensures run { (message : Submission) → MayBeTried message → IsRun one_node (delivery_story message) }
+    ensures run { (message : Submission) → MayBeTried message → AsksReceipt Delivered message →
+        IsRun one_node (delivery_story message) }
     ensures told { (message : Submission) → In (last_deed message) (reached one_node (delivery_story message)).past }
     ensures stated { (message : Submission) → States (last_deed message) first_id Delivered }
 {}

@@ -4,7 +4,7 @@ use Rattle.std.proofs.lemmas.Bool.{cases_lt}
 use Rattle.mc_model.specs.message.Submission.{Submission}
 use Rattle.mc_model.specs.message.Decree.{Author, Decree, Kind, Taken, Attempt, Failed, Fate, Told, Final, Delivered, Expired, Deleted, Undeliverable, Rejected}
 use Rattle.mc_model.specs.message.Neighbours.{MayFollow}
-use Rattle.mc_model.specs.message.Chain.{MayExtend, taken_in, final_in, final_by, untold}
+use Rattle.mc_model.specs.message.Chain.{MayExtend, taken_in, final_in, final_by}
 use Rattle.mc_model.specs.synod.Lists.{In}
 use Rattle.mc_model.specs.synod.OneSlot.{vote_at}
 use Rattle.mc_model.specs.synod.Packet.{Slot, slot_of}

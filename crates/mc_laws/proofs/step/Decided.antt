@@ -16,19 +16,19 @@ use Rattle.mc_model.specs.node.Step.{IsExact}
 
 -- ---- two lists of one order and of the same members are one
 
-below_all : (keys : List ℕ) (key : ℕ) → Fall (key ∷ keys) → (other : ℕ) → In other keys → other < key
+pub below_all : (keys : List ℕ) (key : ℕ) → Fall (key ∷ keys) → (other : ℕ) → In other keys → other < key
 below_all [] key fall other is_in = absurd is_in
 below_all (next ∷ keys) key fall other (inl same) = omega (arith, same, fall.0)
 below_all (next ∷ keys) key fall other (inr later) = let below = below_all keys next fall.1 other later in omega (arith, below, fall.0)
 
-in_keys : (x : Act) (xs : List Act) → In x xs → In (key_of x) (map key_of xs)
+pub in_keys : (x : Act) (xs : List Act) → In x xs → In (key_of x) (map key_of xs)
 in_keys x [] is_in = is_in
 in_keys x (y ∷ xs) (inl same) = inl (ap key_of same)
 in_keys x (y ∷ xs) (inr later) = inr (in_keys x xs later)
 
-behind : (keys : List ℕ) (key : ℕ) → Fall (key ∷ keys) → Fall keys
-behind [] key fall = tt
-behind (next ∷ keys) key fall = fall.1
+pub fall_behind : (keys : List ℕ) (key : ℕ) → Fall (key ∷ keys) → Fall keys
+fall_behind [] key fall = tt
+fall_behind (next ∷ keys) key fall = fall.1
 
 -- a member with the key of the first is the first
 first_only : (x y : Act) (xs : List Act) → Fall (map key_of (y ∷ xs)) → In x (y ∷ xs) → key_of y ≤ key_of x → x ≡ y
@@ -54,7 +54,7 @@ same_list [] (y ∷ ys) fall_x fall_y there back = absurd (back y (inl refl))
 same_list (x ∷ xs) [] fall_x fall_y there back = absurd (there x (inl refl))
 same_list (x ∷ xs) (y ∷ ys) fall_x fall_y there back =
     let heads = first_only x y ys fall_y (there x (inl refl)) (not_above y x xs fall_x (back y (inl refl))) in
-    let tails = same_list xs ys (behind (map key_of xs) (key_of x) fall_x) (behind (map key_of ys) (key_of y) fall_y)
+    let tails = same_list xs ys (fall_behind (map key_of xs) (key_of x) fall_x) (fall_behind (map key_of ys) (key_of y) fall_y)
     (rest_in x y xs ys heads fall_x there) (rest_in y x ys xs (sym heads) fall_y back) in
     λ i. heads i ∷ tails i
 

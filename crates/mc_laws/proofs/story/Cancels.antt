@@ -24,6 +24,7 @@ use Rattle.mc_laws.specs.Stories.{first_id, first_ballot, first_setup, decreed, 
 use Rattle.mc_laws.specs.NodeStories.{no_records, node_of_actor}
 use Rattle.mc_laws.specs.CancelStories.{behind_slot, high_ballot, next_ballot, second_question, told_of_taking, cancelling_at}
 use Rattle.mc_laws.specs.CancelStories.{cancelled_twice, cancelling_again}
+use Rattle.mc_laws.proofs.story.Untold.{untold_newest}
 use Rattle.mc_laws.proofs.story.Rounds.{all_of_one, one_of_one}
 use Rattle.mc_parts.proofs.Known.{knows_one}
 use Rattle.mc_parts.proofs.Membership.{never_empty}
@@ -173,7 +174,7 @@ module _ (message : Submission) where
     where
       only : (act : Act) → In act (Prepares behind_slot next_ballot (deleted_chain message) ∷ []) → Due act
       only act (inl same) = subst Due (sym same) (
-        inr (inr (inr (record {
+        inr (inr (inr (inl (record {
           deletes = record {
             further = record {
               newest = decreed (Taken message);
@@ -189,7 +190,7 @@ module _ (message : Submission) where
             cancelled = record { waiting = cancelling_at message 2 true; waits = inr (inl refl); settled = refl; cancels = (refl, matches) };
           };
           new = λ was known. not_settled was;
-        }))),
+        })))),
         prepares_so,
       )
       only act (inr none) = absurd none
@@ -202,7 +203,8 @@ module _ (message : Submission) where
           by_cause (inr (inl close)) = absurd close
           by_cause (inr (inr (inl follow))) = sym follow.1.about ∙ of_both (λ w. id_in w.request ≡ first_id) (cancelling_at message 1 true)
               (cancelling_at message 2 true) refl refl follow.1.waiting follow.1.waits
-          by_cause (inr (inr (inr delete))) = known_id slot.id _ delete.deletes.further.known
+          by_cause (inr (inr (inr (inl delete)))) = known_id slot.id _ delete.deletes.further.known
+          by_cause (inr (inr (inr (inr told)))) = known_id slot.id _ told.due.further.known
       all act due = absurd due
 
   -- ---- nothing else is due
@@ -238,7 +240,8 @@ module _ (message : Submission) where
   replies_none act due = due
 
   reports_none : (act : Act) → DueToReport 1 1 before heard act → ⊥
-  reports_none (Reports id chain) due = let none : Some due.final ≡ None = sym due.ends ∙ ap final_in (known_is id chain due.known) in cc
+  reports_none (Reports id chain) due =
+      untold_newest 1 heard chain (decreed (Taken message)) [] (known_is id chain due.known) (λ is. cc) due.told
   reports_none act due = due
 
   pub again : IsStepAlone first_setup (node_of_actor before) (Delivery (told_of_taking message)) (cancelling_again message)

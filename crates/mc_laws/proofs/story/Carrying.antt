@@ -55,7 +55,8 @@ module _ (vote : Vote) (other : List Decree) where
       by_cause (inl take) = take
       by_cause (inr (inl close)) = close
       by_cause (inr (inr (inl follow))) = follow
-      by_cause (inr (inr (inr delete))) = delete.deletes.cancelled.waits
+      by_cause (inr (inr (inr (inl delete)))) = delete.deletes.cancelled.waits
+      by_cause (inr (inr (inr (inr told)))) = none_known 3 now.received no_votes _ _ told.due.further.known
   prepares_none records act due = due
 
   replies_none : (act : Act) → DueToReply 3 1 now act → ⊥

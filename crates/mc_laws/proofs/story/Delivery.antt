@@ -1,7 +1,8 @@
 -- The story of a delivery is a run.
 use Rattle.std.proofs.Common.{◌≡◌, ℕ, pred, ◌≤◌, false, List, [], ◌∷◌, ◌++◌, length, map, refl, sym, ap, subst, inl, inr, arith}
 use Rattle.mc_model.specs.message.Submission.{Submission}
-use Rattle.mc_model.specs.message.Decree.{Decree, Taken, Attempt, Fate, Delivered}
+use Rattle.mc_model.specs.message.Decree.{Decree, Taken, Attempt, Fate, Told, Delivered}
+use Rattle.mc_model.specs.message.Receipts.{AsksReceipt}
 use Rattle.mc_model.specs.synod.Lists.{In}
 use Rattle.mc_model.specs.synod.OneSlot.{Vote, vote_at}
 use Rattle.mc_model.specs.synod.Packet.{Slot, slot_at, slot_of, Packet, Prepare, Promise, Propose, Voted, Refused, Ask, Tell}
@@ -12,7 +13,7 @@ use Rattle.mc_model.specs.node.Replies.{Accepted}
 use Rattle.mc_model.specs.node.Act.{Act, Begins, Replies, Reports, Grants, Concludes}
 use Rattle.mc_model.specs.cluster.World.{World, May, reached, IsRun, after}
 use Rattle.mc_laws.specs.Stories.{first_id, first_ballot, decreed, taken_chain, attempted_chain, delivered_chain, round_for, by_node_1}
-use Rattle.mc_laws.specs.Stories.{delivery_story, one_node, MayBeTried}
+use Rattle.mc_laws.specs.Stories.{delivering_acts, delivery_story, one_node, told_chain, MayBeTried}
 use Rattle.mc_parts.proofs.Membership.{in_right}
 use Rattle.mc_laws.proofs.step.Behind.{run_on}
 use Rattle.mc_laws.proofs.story.Rounds.{all_of_one, one_of_one, IsReady, round_runs}
@@ -87,6 +88,9 @@ answered message = after (granted message) 1 (Concludes (slot_of first_id (attem
 
 abbrev delivered : Submission → World
 delivered message = reached (answered message) (map by_node_1 (round_for (delivered_chain message)))
+
+abbrev told : Submission → World
+told message = reached (delivered message) (map by_node_1 (round_for (told_chain message)))
 
 may_begin : (message : Submission) → MayBeTried message → May one_node 1 (Begins 1 (Submit first_id message))
 may_begin message tried = record {
@@ -243,15 +247,62 @@ ready_to_deliver message = record {
   });
 }
 
-knows_delivered : (message : Submission) → Knows 1 ((delivered message).actors 1).received first_id (delivered_chain message)
-knows_delivered message = knows ((delivered message).actors 1).received (delivered_chain message) ((omega arith, λ same. refl), (tt, (tt, (tt, ((omega arith, λ same. absurd (omega (arith, same))), (tt, (tt, (tt, ((omega arith, λ same. absurd (omega (arith, same))), (tt, (tt, (tt, tt)))))))))))) (inl refl)
+ready_to_tell : (message : Submission) → AsksReceipt Delivered message →
+    IsReady (delivered message) (slot_of first_id (told_chain message)) (vote_at first_ballot (told_chain message))
+ready_to_tell message asks = record {
+  nodes = refl;
+  up = refl;
+  proposer = refl;
+  incarnation = refl;
+  above = omega arith;
+  unused = refl;
+  once = λ chain is_in. elim is_in [
+    | inl proposed ↦ apart 1 1 _ _ _ _ (λ place. omega (arith, place)) proposed
+    | inr older ↦ elim older [
+      | inl prepared ↦ cc
+      | inr oldest ↦ elim oldest [
+        | inl second ↦ apart 1 1 _ _ _ _ (λ place. omega (arith, place)) second
+        | inr rest ↦ elim rest [
+          | inl again ↦ cc
+          | inr first ↦ elim first [
+            | inl taking ↦ apart 1 1 _ _ _ _ (λ place. omega (arith, place)) taking
+            | inr last ↦ elim last [ inl asked ↦ cc | inr none ↦ absurd none ]
+          ]
+        ]
+      ]
+    ]
+  ];
+  place = refl;
+  mine = inr (record {
+    next = decreed Told;
+    newest = decreed (Fate Delivered 0);
+    older = attempted_chain message;
+    taken = message;
+    ballot = first_ballot;
+    chain_is = refl;
+    chosen = all_of_one 1 _ refl (inl refl);
+    author = refl;
+    moment = refl;
+    message = refl;
+    may = (omega arith, record { node = refl; asked = asks });
+    error = tt;
+    allowed = tt;
+  });
+}
 
-may_report : (message : Submission) → May (delivered message) 1 (Reports first_id (delivered_chain message))
+knows_told : (message : Submission) → Knows 1 ((told message).actors 1).received first_id (told_chain message)
+knows_told message = knows ((told message).actors 1).received (told_chain message) ((omega arith, λ same. refl), (tt, (tt, (tt, ((omega arith, λ same. absurd (omega (arith, same))), (tt, (tt, (tt, ((omega arith, λ same. absurd (omega (arith, same))), (tt, (tt, (tt, ((omega arith, λ same. absurd (omega (arith, same))), (tt, (tt, (tt, tt)))))))))))))))) (inl refl)
+
+may_report : (message : Submission) → May (told message) 1 (Reports first_id (told_chain message))
 may_report message = record {
   least = omega arith;
   most = omega arith;
   up = refl;
-  needs = record { final = Delivered; named = refl; known = knows_delivered message; ends = refl };
+  needs = record {
+    named = refl;
+    known = knows_told message;
+    told = record { told = decreed Told; older = delivered_chain message; chain_is = refl; kind = refl; author = refl };
+  };
 }
 
 -- ---- all of it
@@ -268,6 +319,9 @@ until_accepted message = (1, Replies 1 first_id Accepted) ∷ map by_node_1 (rou
 pub accepted_run : (message : Submission) → MayBeTried message → IsRun one_node (until_accepted message)
 accepted_run message tried = (may_accept message, taken_run message tried)
 
+abbrev pub delivering_story : Submission → List (ℕ × Act)
+delivering_story message = map by_node_1 (delivering_acts message)
+
 abbrev until_answered : Submission → List (ℕ × Act)
 until_answered message =
     (1, Concludes (slot_of first_id (attempted_chain message)) (Concluded Delivered 0))
@@ -278,9 +332,13 @@ answered_run : (message : Submission) → MayBeTried message → IsRun one_node 
 answered_run message tried =
     (may_answer message, (may_grant message, run_on one_node (map by_node_1 (round_for (attempted_chain message))) (until_accepted message) (round_runs (accepted message) _ _ (ready_to_attempt message tried)) (accepted_run message tried)))
 
-pub delivery_run : (message : Submission) → MayBeTried message → IsRun one_node (delivery_story message)
-delivery_run message tried = (
+pub delivering_run : (message : Submission) → MayBeTried message → IsRun one_node (delivering_story message)
+delivering_run message tried = run_on one_node (map by_node_1 (round_for (delivered_chain message))) (until_answered message)
+    (round_runs (answered message) _ _ (ready_to_deliver message)) (answered_run message tried)
+
+pub delivery_run : (message : Submission) → MayBeTried message → AsksReceipt Delivered message → IsRun one_node (delivery_story message)
+delivery_run message tried asks = (
   may_report message,
-  run_on one_node (map by_node_1 (round_for (delivered_chain message))) (until_answered message)
-      (round_runs (answered message) _ _ (ready_to_deliver message)) (answered_run message tried),
+  run_on one_node (map by_node_1 (round_for (told_chain message))) (delivering_story message)
+      (round_runs (delivered message) _ _ (ready_to_tell message asks)) (delivering_run message tried),
 )

@@ -123,7 +123,8 @@ only_cause : (message : Submission) (id place : ℕ) (chain : List Decree) →
 only_cause message id place chain (inl take) = record { id_is = sym take.0; place_is = take.1; chain_is = only_chain message id chain take.2 }
 only_cause message id place chain (inr (inl close)) = absurd close
 only_cause message id place chain (inr (inr (inl follow))) = absurd follow
-only_cause message id place chain (inr (inr (inr delete))) = absurd (none_known _ _ delete.deletes.further.known)
+only_cause message id place chain (inr (inr (inr (inl delete)))) = absurd (none_known _ _ delete.deletes.further.known)
+only_cause message id place chain (inr (inr (inr (inr told)))) = absurd (none_known _ _ told.due.further.known)
 
 taken_first : (message : Submission) → IsFirst 1 (asked message) first_id (taken_chain message)
 taken_first message = record {

@@ -223,7 +223,8 @@ module _ (account source : List ℕ) (vote : Vote) where
       by_cause (inl take) = take
       by_cause (inr (inl close)) = close
       by_cause (inr (inr (inl follow))) = no_follow slot.id slot.place chain follow
-      by_cause (inr (inr (inr delete))) = none_known 3 received none _ _ delete.deletes.further.known
+      by_cause (inr (inr (inr (inl delete)))) = none_known 3 received none _ _ delete.deletes.further.known
+      by_cause (inr (inr (inr (inr told)))) = none_known 3 received none _ _ told.due.further.known
   no_cause before packet received sent offers none no_follow act due = due
 
   -- the query_sm comes
@@ -248,7 +249,8 @@ module _ (account source : List ℕ) (vote : Vote) where
       by_cause (inl take) = take
       by_cause (inr (inl close)) = close
       by_cause (inr (inr (inl follow))) = follow
-      by_cause (inr (inr (inr delete))) = none_known 3 [] no_packets _ _ delete.deletes.further.known
+      by_cause (inr (inr (inr (inl delete)))) = none_known 3 [] no_packets _ _ delete.deletes.further.known
+      by_cause (inr (inr (inr (inr told)))) = none_known 3 [] no_packets _ _ told.due.further.known
   no_arrival_cause act due = due
 
   proposes_none : (before : Actor) (received : List Packet) → (act : Act) → DueToPropose 3 1 before (at received [] []) act → ⊥
@@ -375,7 +377,8 @@ module _ (account source : List ℕ) (vote : Vote) where
           by_cause (inr (inl close)) = absurd close
           by_cause (inr (inr (inl follow))) = inl (sym follow.1.about ∙ only_waiting account source
               (λ w. id_in w.request ≡ second_id) refl follow.1.waiting follow.1.waits)
-          by_cause (inr (inr (inr delete))) = absurd (none_known 3 (told vote) (no_votes_3 vote) _ _ delete.deletes.further.known)
+          by_cause (inr (inr (inr (inl delete)))) = absurd (none_known 3 (told vote) (no_votes_3 vote) _ _ delete.deletes.further.known)
+          by_cause (inr (inr (inr (inr tells)))) = absurd (none_known 3 (told vote) (no_votes_3 vote) _ _ tells.due.further.known)
       all act due = absurd due
 
   told_3_exact : IsExact among_three (at (Tell 2 question None ∷ []) [] []) no_records (Delivery (told_by_3 vote))

@@ -14,7 +14,7 @@ use Rattle.mc_model.specs.node.Act.{Act, Receives, Promises, Settles, Replies, A
 use Rattle.mc_model.specs.node.Effect.{did, saved}
 use Rattle.mc_model.specs.node.Rounds.{HasSeen, MayPrepare, sent_since_tick}
 use Rattle.mc_model.specs.node.Input.{Input, Delivery, Crash, Arrival, Tick, Refusal, Grant, Response, Restart}
-use Rattle.mc_model.specs.node.Causes.{Causes, CausesClose, CausesFollow}
+use Rattle.mc_model.specs.node.Causes.{Causes, CausesClose, CausesFollow, CausesTold}
 use Rattle.mc_model.specs.node.Due.{AreDueOnce, key_of}
 use Rattle.mc_model.specs.node.Core.{IsCore}
 use Rattle.mc_model.specs.node.Phases.{IsStarted, DueToSettle, DueToEnd, DueToAsk, DueToAbandon, DueToPrepare, DueToPropose, DueToReply, DueToReport}
@@ -23,6 +23,7 @@ use Rattle.mc_model.specs.node.Alone.{Node, IsStepAlone, opened_new}
 use Rattle.mc_laws.specs.Stories.{first_id, first_ballot, first_setup, decreed, taken_chain, attempted_chain, delivered_chain}
 use Rattle.mc_laws.specs.NodeStories.{knowing, no_records, node_of_actor, among_three, used_up, first_attempt}
 use Rattle.mc_laws.proofs.story.FirstStep.{none_due, none_due_once}
+use Rattle.mc_laws.proofs.story.Untold.{nothing_new}
 use Rattle.mc_laws.proofs.story.Ticks.{known_here}
 use Rattle.mc_parts.proofs.Membership.{never_empty}
 use Rattle.mc_laws.proofs.story.Following.{NoVotes, none_known}
@@ -103,10 +104,11 @@ module _ (setup : Setup) (a : Actor) (records : Records) (input : Input) (core :
   replies_none act due = due
 
   -- no round is started but by an outcome
-  pub cause_none : ((id place : ℕ) (chain : List Decree) → CausesClose setup.nodes setup.node b input id place chain → ⊥) → (act : Act) →
+  pub cause_none : ((id place : ℕ) (chain : List Decree) → CausesClose setup.nodes setup.node b input id place chain → ⊥) →
+      ((id place : ℕ) (chain : List Decree) → CausesTold setup.nodes setup.node a b id place chain → ⊥) → (act : Act) →
       DueToPrepare setup.nodes setup.node a b (saved records core) input act →
       ⊥
-  cause_none no_close (Prepares slot ballot chain) due = by_input input plain due.0 no_close
+  cause_none no_close no_told (Prepares slot ballot chain) due = by_input input plain due.0 no_close
     where
       followed : (packet : Packet) → CausesFollow setup.nodes setup.node a b (Delivery packet) slot.id slot.place chain → ⊥
       followed (Tell sender name told) follow = idle.waits follow.1.waiting follow.1.waits
@@ -134,30 +136,36 @@ module _ (setup : Setup) (a : Actor) (records : Records) (input : Input) (core :
       by_input (Delivery packet) is (inl take) none = take
       by_input (Delivery packet) is (inr (inl close)) none = none slot.id slot.place chain close
       by_input (Delivery packet) is (inr (inr (inl follow))) none = no_follow (Delivery packet) follow
-      by_input (Delivery packet) is (inr (inr (inr delete))) none = idle.waits delete.deletes.cancelled.waiting delete.deletes.cancelled.waits
+      by_input (Delivery packet) is (inr (inr (inr (inl delete)))) none = idle.waits delete.deletes.cancelled.waiting delete.deletes.cancelled.waits
+      by_input (Delivery packet) is (inr (inr (inr (inr told)))) none = no_told slot.id slot.place chain told
       by_input (Crash packet after) is (inl take) none = take
       by_input (Crash packet after) is (inr (inl close)) none = none slot.id slot.place chain close
       by_input (Crash packet after) is (inr (inr (inl follow))) none = no_follow (Crash packet after) follow
-      by_input (Crash packet after) is (inr (inr (inr delete))) none = idle.waits delete.deletes.cancelled.waiting delete.deletes.cancelled.waits
+      by_input (Crash packet after) is (inr (inr (inr (inl delete)))) none = idle.waits delete.deletes.cancelled.waiting delete.deletes.cancelled.waits
+      by_input (Crash packet after) is (inr (inr (inr (inr told)))) none = no_told slot.id slot.place chain told
       by_input (Refusal status) is (inl take) none = take
       by_input (Refusal status) is (inr (inl close)) none = none slot.id slot.place chain close
       by_input (Refusal status) is (inr (inr (inl follow))) none = no_follow (Refusal status) follow
-      by_input (Refusal status) is (inr (inr (inr delete))) none = idle.waits delete.deletes.cancelled.waiting delete.deletes.cancelled.waits
+      by_input (Refusal status) is (inr (inr (inr (inl delete)))) none = idle.waits delete.deletes.cancelled.waiting delete.deletes.cancelled.waits
+      by_input (Refusal status) is (inr (inr (inr (inr told)))) none = no_told slot.id slot.place chain told
       by_input (Grant other) is (inl take) none = take
       by_input (Grant other) is (inr (inl close)) none = none slot.id slot.place chain close
       by_input (Grant other) is (inr (inr (inl follow))) none = no_follow (Grant other) follow
-      by_input (Grant other) is (inr (inr (inr delete))) none = idle.waits delete.deletes.cancelled.waiting delete.deletes.cancelled.waits
+      by_input (Grant other) is (inr (inr (inr (inl delete)))) none = idle.waits delete.deletes.cancelled.waiting delete.deletes.cancelled.waits
+      by_input (Grant other) is (inr (inr (inr (inr told)))) none = no_told slot.id slot.place chain told
       by_input (Response other outcome) is (inl take) none = take
       by_input (Response other outcome) is (inr (inl close)) none = none slot.id slot.place chain close
       by_input (Response other outcome) is (inr (inr (inl follow))) none = no_follow (Response other outcome) follow
-      by_input (Response other outcome) is (inr (inr (inr delete))) none = idle.waits delete.deletes.cancelled.waiting delete.deletes.cancelled.waits
+      by_input (Response other outcome) is (inr (inr (inr (inl delete)))) none = idle.waits delete.deletes.cancelled.waiting delete.deletes.cancelled.waits
+      by_input (Response other outcome) is (inr (inr (inr (inr told)))) none = no_told slot.id slot.place chain told
       by_input (Restart lost) is (inl take) none = take
       by_input (Restart lost) is (inr (inl close)) none = none slot.id slot.place chain close
       by_input (Restart lost) is (inr (inr (inl follow))) none = no_follow (Restart lost) follow
-      by_input (Restart lost) is (inr (inr (inr delete))) none = idle.waits delete.deletes.cancelled.waiting delete.deletes.cancelled.waits
+      by_input (Restart lost) is (inr (inr (inr (inl delete)))) none = idle.waits delete.deletes.cancelled.waiting delete.deletes.cancelled.waits
+      by_input (Restart lost) is (inr (inr (inr (inr told)))) none = no_told slot.id slot.place chain told
       by_input (Arrival request) is due none = absurd is
       by_input (Tick moment up) is due none = absurd is
-  cause_none no_close act due = due
+  cause_none no_close no_told act due = due
 
   pub idle_exact : IsCore setup a records input core → ((act : Act) → DueToReport setup.nodes setup.node a b act → ⊥) →
       (prepares : List Act) → AreDueOnce (DueToPrepare setup.nodes setup.node a b (saved records core) input) prepares → (acts : List Act) →
@@ -217,7 +225,7 @@ promises = record {
       (no_report_yet (opened 1 1)) []
       (none_due_once _ (cause_none among_three (opened 1 1) no_records (Delivery (Prepare 2 (slot_at first_id 0) first_ballot))
       (Promises (slot_at first_id 0) first_ballot true ∷ Receives (Prepare 2 (slot_at first_id 0) first_ballot) ∷ []) tt promise_idle
-      (λ id place chain none. none))) _ refl;
+      (λ id place chain none. none) (λ id place chain told. none_known 3 _ no_vote_yet _ _ told.due.further.known))) _ refl;
 }
 
 -- and where it stops after the save, nothing is answered
@@ -251,7 +259,8 @@ stops = record {
       })
       (no_report_stopped (opened 1 1)) []
       (none_due_once _ (cause_none among_three (opened 1 1) no_records
-      (Crash (Prepare 2 (slot_at first_id 0) first_ballot) true) stopping tt stop_idle (λ id place chain none. none))) stopping refl;
+      (Crash (Prepare 2 (slot_at first_id 0) first_ballot) true) stopping tt stop_idle (λ id place chain none. none)
+      (λ id place chain told. none_known 3 _ no_vote_yet _ _ told.due.further.known))) stopping refl;
 }
 
 -- ---- a node that has received nothing
@@ -273,7 +282,8 @@ restarts s below = record {
   exact = idle_exact among_three s.actor s.records (Restart 2) (Restarts 2 1 ∷ []) tt (new_idle (suc (s.actor.incarnation + 2)) 1) refl
       (no_report_new s.actor (suc (s.actor.incarnation + 2)) 1) []
       (none_due_once _ (cause_none among_three s.actor s.records (Restart 2) (Restarts 2 1 ∷ []) tt
-      (new_idle (suc (s.actor.incarnation + 2)) 1) (λ id place chain none. none))) (Restarts 2 1 ∷ []) refl;
+      (new_idle (suc (s.actor.incarnation + 2)) 1) (λ id place chain none. none)
+      (λ id place chain told. none_known 3 _ no_vote_at_all _ _ told.due.further.known))) (Restarts 2 1 ∷ []) refl;
 }
 
 -- a submit_sm finds no serial, and is answered at once
@@ -283,7 +293,8 @@ refuses = record {
   exact = idle_exact among_three used_up no_records (Refusal queue_full) [] tt (record { waits = λ waiting none. none; runs = never_empty })
       (record { throttled = λ is. absurd (omega (arith, is)); queue_full = λ is. omega arith }, refl) unreported []
       (none_due_once _ (cause_none among_three used_up no_records (Refusal queue_full) [] tt
-      (record { waits = λ waiting none. none; runs = never_empty }) (λ id place chain none. none))) [] refl;
+      (record { waits = λ waiting none. none; runs = never_empty }) (λ id place chain none. none)
+      (nothing_new 3 1 used_up used_up refl))) [] refl;
 }
   where
     unreported : (act : Act) → DueToReport 3 1 used_up used_up act → ⊥
@@ -301,8 +312,7 @@ module _ (message : Submission) where
 
   -- what is known was known before, and has no final state
   no_report_of : (before after : Actor) → before.received ≡ after.received → (act : Act) → DueToReport 1 1 before after act → ⊥
-  no_report_of before after same (Reports id chain) due = due.new chain due.final
-      (subst (λ (ps : List Packet). Knows 1 ps id chain) (sym same) due.known) due.ends
+  no_report_of before after same (Reports id chain) due = due.new (subst (λ (ps : List Packet). Knows 1 ps id chain) (sym same) due.known)
   no_report_of before after same act due = due
 
   pub grants : IsStepAlone first_setup (node_of_actor (attempting [] [])) (Grant (first_attempt message)) (Grants (first_attempt message) ∷ [])
@@ -332,7 +342,8 @@ module _ (message : Submission) where
     exact = idle_exact first_setup (attempting [] []) no_records (Grant (first_attempt message)) (Grants (first_attempt message) ∷ []) tt
         (attempt_idle (first_attempt message ∷ []) []) refl (no_report_of (attempting [] []) (attempting (first_attempt message ∷ []) []) refl) []
         (none_due_once _ (cause_none first_setup (attempting [] []) no_records (Grant (first_attempt message))
-        (Grants (first_attempt message) ∷ []) tt (attempt_idle (first_attempt message ∷ []) []) (λ id place chain none. none)))
+        (Grants (first_attempt message) ∷ []) tt (attempt_idle (first_attempt message ∷ []) []) (λ id place chain none. none)
+        (nothing_new 1 1 (attempting [] []) (attempting (first_attempt message ∷ []) []) refl)))
         (Grants (first_attempt message) ∷ []) refl;
   }
 
@@ -395,7 +406,8 @@ module _ (message : Submission) where
           by_cause (inl take) = absurd take
           by_cause (inr (inl close)) = sym close.about
           by_cause (inr (inr (inl follow))) = absurd follow
-          by_cause (inr (inr (inr delete))) = absurd delete.deletes.cancelled.waits
+          by_cause (inr (inr (inr (inl delete)))) = absurd delete.deletes.cancelled.waits
+          by_cause (inr (inr (inr (inr told)))) = absurd (nothing_new 1 1 (attempting (first_attempt message ∷ []) []) concluded refl slot.id slot.place chain told)
       all act due = absurd due
 
   pub concludes : IsStepAlone first_setup (node_of_actor (attempting (first_attempt message ∷ []) [])) (Response (first_attempt message) (Concluded Delivered 0)) (Prepares (slot_of first_id (delivered_chain message)) first_ballot (delivered_chain message) ∷ Concludes (first_attempt message) (Concluded Delivered 0) ∷ [])

@@ -15,13 +15,13 @@ use Rattle.mc_model.specs.node.Proposal.{IsMatch}
 use Rattle.mc_model.specs.node.Replies.{Shown, Removed}
 use Rattle.mc_model.specs.node.Act.{Act, Begins, Settles, Replies}
 use Rattle.mc_model.specs.cluster.World.{World, May, reached, IsRun, after}
-use Rattle.mc_laws.specs.Stories.{first_id, first_ballot, taken_chain, attempted_chain, delivered_chain, round_for, delivery_story}
+use Rattle.mc_laws.specs.Stories.{first_id, first_ballot, taken_chain, attempted_chain, delivered_chain, round_for}
 use Rattle.mc_laws.specs.Stories.{deleted_chain, decreed, by_node_1, one_node, MayBeTried}
 use Rattle.mc_laws.specs.AnswerStories.{asking, told_of, question_for, query_story, cancel_story}
 use Rattle.mc_parts.proofs.Membership.{slots_same}
 use Rattle.mc_laws.proofs.step.Behind.{run_on}
 use Rattle.mc_laws.proofs.story.Rounds.{all_of_one, IsReady, round_runs}
-use Rattle.mc_laws.proofs.story.Delivery.{apart, begun, accepted, answered, knows, until_accepted, accepted_run, delivery_run}
+use Rattle.mc_laws.proofs.story.Delivery.{apart, begun, accepted, answered, knows, until_accepted, accepted_run, delivering_run, delivering_story}
 
 -- ---- what is told by the records
 
@@ -104,7 +104,7 @@ question_runs w chain nodes up incarnation waiting top = (
 -- ---- a query_sm
 
 abbrev queried : Submission → World
-queried message = reached one_node ((1, Begins 2 (Query first_id message.submitter message.source.digits)) ∷ delivery_story message)
+queried message = reached one_node ((1, Begins 2 (Query first_id message.submitter message.source.digits)) ∷ delivering_story message)
 
 abbrev heard : Submission → World
 heard message = reached (queried message) (map by_node_1 (question_for (delivered_chain message)))
@@ -143,16 +143,16 @@ may_show message = record {
 }
 
 begun_query : (message : Submission) → MayBeTried message →
-    IsRun one_node ((1, Begins 2 (Query first_id message.submitter message.source.digits)) ∷ delivery_story message)
+    IsRun one_node ((1, Begins 2 (Query first_id message.submitter message.source.digits)) ∷ delivering_story message)
 begun_query message tried =
-    (record { least = omega arith; most = omega arith; up = refl; needs = record { next = refl; room = refl; fit = tt } }, delivery_run message tried)
+    (record { least = omega arith; most = omega arith; up = refl; needs = record { next = refl; room = refl; fit = tt } }, delivering_run message tried)
 
 pub query_run : (message : Submission) → MayBeTried message → IsRun one_node (query_story message)
 query_run message tried =
     let waits : IsWaiting ((queried message).actors 1) first_id 2 = record { waiting = querying message; waits = inl refl; ticket_is = refl; about = refl } in (
       may_show message,
       run_on one_node (map by_node_1 (question_for (delivered_chain message)))
-          ((1, Begins 2 (Query first_id message.submitter message.source.digits)) ∷ delivery_story message)
+          ((1, Begins 2 (Query first_id message.submitter message.source.digits)) ∷ delivering_story message)
           (question_runs (queried message) (delivered_chain message) refl refl refl waits (top_delivered message)) (begun_query message tried),
     )
 

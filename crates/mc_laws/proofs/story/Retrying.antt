@@ -17,7 +17,7 @@ use Rattle.mc_model.specs.node.Proposal.{IsMatch}
 use Rattle.mc_model.specs.node.Replies.{longest_wait, Answer, Accepted, Removed, Kept, NotMatched, Unknown, TooLate, FitsCancel, FitsRequest, KeepsMessage}
 use Rattle.mc_model.specs.node.Rounds.{HasSeen, MayPrepare, sent_since_tick}
 use Rattle.mc_model.specs.node.Rules.{IsShownAt}
-use Rattle.mc_model.specs.node.FirstRule.{Rule, Take, Follow, Close, Lose, GiveUp, Delete, Expire, Undeliver, Try, FitsRule, IsFirstRule, order_of}
+use Rattle.mc_model.specs.node.FirstRule.{Announce, Rule, Take, Follow, Close, Lose, GiveUp, Delete, Expire, Undeliver, Try, FitsRule, IsFirstRule, order_of}
 use Rattle.mc_model.specs.node.Act.{Act, Settles, Replies, Asks, Abandons, Prepares, Proposes, Reports, Ticks}
 use Rattle.mc_model.specs.node.Effect.{did}
 use Rattle.mc_model.specs.node.Input.{Tick}
@@ -112,7 +112,7 @@ module _ (setup : Setup) (a : Actor) (records : Records) (slot : Slot) (ballot :
   }
     where
       unreported : (act : Act) → DueToReport setup.nodes setup.node a now act → ⊥
-      unreported (Reports id other) due = due.new other due.final due.known due.ends
+      unreported (Reports id other) due = due.new due.known
       unreported act due = due
 
 -- ---- a vote beyond what is known
@@ -153,6 +153,7 @@ module _ (chain : List Decree) where
   rule_id id place other Expire fits = absurd (none_known 3 [] no_vote_at_all _ _ fits.further.known)
   rule_id id place other Undeliver fits = absurd (none_known 3 [] no_vote_at_all _ _ fits.due.further.known)
   rule_id id place other Try fits = absurd (none_known 3 [] no_vote_at_all _ _ fits.due.further.known)
+  rule_id id place other Announce fits = absurd (none_known 3 [] no_vote_at_all _ _ fits.further.known)
 
   follow_first : IsFirstRule 3 1 anew records_of all_up second_id 0 chain Follow
   follow_first = record {
@@ -179,6 +180,7 @@ module _ (chain : List Decree) where
       earlier Expire place other below fits = omega (arith, below)
       earlier Undeliver place other below fits = omega (arith, below)
       earlier Try place other below fits = omega (arith, below)
+      earlier Announce place other below fits = omega (arith, below)
 
   seen_most : (round : ℕ) → HasSeen 1 anew records_of second_slot round → round ≤ 1
   seen_most round (inl own) = let is : round ≡ 1 = own in omega (arith, is)
@@ -243,6 +245,7 @@ module _ (message : Submission) where
   take_id id place other Expire fits = absurd (none_known 1 [] no_vote_at_all _ _ fits.further.known)
   take_id id place other Undeliver fits = absurd (none_known 1 [] no_vote_at_all _ _ fits.due.further.known)
   take_id id place other Try fits = absurd (none_known 1 [] no_vote_at_all _ _ fits.due.further.known)
+  take_id id place other Announce fits = absurd (none_known 1 [] no_vote_at_all _ _ fits.further.known)
 
   take_first : IsFirstRule 1 1 retaken no_records all_up first_id 0 (taken_chain message) Take
   take_first = record {
@@ -260,6 +263,7 @@ module _ (message : Submission) where
       earlier Expire place other below fits = omega (arith, below)
       earlier Undeliver place other below fits = omega (arith, below)
       earlier Try place other below fits = omega (arith, below)
+      earlier Announce place other below fits = omega (arith, below)
 
   retaken_most : (round : ℕ) → HasSeen 1 retaken no_records taken_slot round → round ≤ 1
   retaken_most round (inl own) = let is : round ≡ 0 = own in omega (arith, is)
@@ -362,6 +366,7 @@ module _ (message : Submission) where
   delete_id id place other Expire fits = known_id id _ fits.further.known
   delete_id id place other Undeliver fits = known_id id _ fits.due.further.known
   delete_id id place other Try fits = known_id id _ fits.due.further.known
+  delete_id id place other Announce fits = known_id id _ fits.further.known
 
   matches : IsMatch message message.submitter message.source.digits []
   matches = record { owner = record { same_account = refl; same_source = refl }; same_destination = inl refl }
@@ -397,6 +402,7 @@ module _ (message : Submission) where
       earlier Expire place other below fits = omega (arith, below)
       earlier Undeliver place other below fits = omega (arith, below)
       earlier Try place other below fits = omega (arith, below)
+      earlier Announce place other below fits = omega (arith, below)
 
   seen_none : (round : ℕ) → HasSeen 1 recalled no_records behind_slot round → round ≡ 0
   seen_none round (inl own) = own

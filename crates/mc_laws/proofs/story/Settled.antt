@@ -25,6 +25,7 @@ use Rattle.mc_parts.proofs.Membership.{in_right, never_empty}
 use Rattle.mc_parts.proofs.Known.{knows_one}
 use Rattle.mc_parts.proofs.OneAnswer.{one_answer}
 use Rattle.mc_laws.proofs.story.FirstStep.{none_due, none_due_once}
+use Rattle.mc_laws.proofs.story.Untold.{unfated, untold_newest}
 use Rattle.mc_laws.proofs.story.Following.{two_and_three}
 
 module _ (message : Submission) where
@@ -118,8 +119,10 @@ module _ (message : Submission) where
           let place : slot.place ≡ 0 = ap (λ (t : TopVote). t.place) same in
           let ahead = follow.1.ahead (second_chain message) (subst (λ (i : ℕ). Knows 3 now.received i (second_chain message)) (sym about) known) in
           omega (arith, place, ahead)
-      by_cause (inr (inr (inr delete))) = only_asked (λ w. Cancels w.request slot.id delete.deletes.further.taken → ⊥)
+      by_cause (inr (inr (inr (inl delete)))) = only_asked (λ w. Cancels w.request slot.id delete.deletes.further.taken → ⊥)
           (λ none. none) delete.deletes.cancelled.waiting delete.deletes.cancelled.waits delete.deletes.cancelled.cancels
+      by_cause (inr (inr (inr (inr told)))) = unfated 3 1 now slot.id slot.place chain
+          (λ chain final knows is. let none : None ≡ Some final = sym (ap final_in (known_is slot.id chain knows)) ∙ is in cc) told.due
   prepares_none act due = due
 
   proposes_none : (act : Act) → DueToPropose 3 1 before now act → ⊥
@@ -127,7 +130,8 @@ module _ (message : Submission) where
   proposes_none act due = due
 
   reports_none : (act : Act) → DueToReport 3 1 before now act → ⊥
-  reports_none (Reports id chain) due = let none : Some due.final ≡ None = sym due.ends ∙ ap final_in (known_is id chain due.known) in cc
+  reports_none (Reports id chain) due =
+      untold_newest 1 now chain _ [] (known_is id chain due.known) (λ is. cc) due.told
   reports_none act due = due
 
   replies_one : AreDue (DueToReply 3 1 now) (Replies 1 second_id (Shown (second_chain message)) ∷ [])

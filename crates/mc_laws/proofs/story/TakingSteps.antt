@@ -1,7 +1,7 @@
 -- A cluster of one node takes a message, step by step.
 use Rattle.std.proofs.Common.{◌≡◌, ℕ, true, false, List, [], ◌∷◌, ◌++◌, Some, None, refl, sym, ◌∙◌, ap, subst, inl, inr, arith}
 use Rattle.mc_model.specs.message.Submission.{Submission}
-use Rattle.mc_model.specs.message.Decree.{Decree}
+use Rattle.mc_model.specs.message.Decree.{Decree, Final, Taken}
 use Rattle.mc_model.specs.message.Chain.{final_in}
 use Rattle.mc_model.specs.synod.Lists.{In}
 use Rattle.mc_model.specs.synod.OneSlot.{Vote, vote_at}
@@ -21,10 +21,11 @@ use Rattle.mc_model.specs.node.Phases.{IsCancelRequest, DueToSettle, DueToEnd, D
 use Rattle.mc_model.specs.node.Step.{IsExact}
 use Rattle.mc_model.specs.cluster.World.{start}
 use Rattle.mc_model.specs.cluster.Steps.{AreSteps}
-use Rattle.mc_laws.specs.Stories.{first_ballot, first_id, first_setup, taken_chain, taken_slot, taken_vote, MayBeTried}
+use Rattle.mc_laws.specs.Stories.{decreed, first_ballot, first_id, first_setup, taken_chain, taken_slot, taken_vote, MayBeTried}
 use Rattle.mc_laws.specs.ClusterStories.{lone, begun_steps, promised_steps, proposed_steps, voted_steps, taking_steps}
 use Rattle.mc_parts.proofs.Known.{knows_one}
 use Rattle.mc_parts.proofs.Membership.{never_empty}
+use Rattle.mc_laws.proofs.story.Untold.{unfated, untold_newest}
 use Rattle.mc_laws.proofs.story.Rounds.{all_of_one, one_of_one}
 use Rattle.mc_laws.proofs.story.Delivery.{knows}
 use Rattle.mc_laws.proofs.story.FirstStep.{none_due, none_due_once, first_exact}
@@ -66,18 +67,25 @@ module _ (message : Submission) where
   asks_none before a packet act due = due
 
   prepares_none : (before : Actor) (packet : Packet) (received sent : List Packet) (records : Records) →
-      ((id place : ℕ) (chain : List Decree) (a : Actor) → CausesFollow 1 1 before a (Delivery packet) id place chain → ⊥) → (act : Act) →
+      ((id place : ℕ) (chain : List Decree) (a : Actor) → CausesFollow 1 1 before a (Delivery packet) id place chain → ⊥) →
+      ((id : ℕ) (known : List Decree) (final : Final) → Knows 1 received id known → final_in known ≡ Some final → ⊥) → (act : Act) →
       DueToPrepare 1 1 before (taking received sent) records (Delivery packet) act →
       ⊥
-  prepares_none before packet received sent records no_follow (Prepares slot ballot chain) due = by_cause due.0
+  prepares_none before packet received sent records no_follow no_fate (Prepares slot ballot chain) due = by_cause due.0
     where
       by_cause : Causes 1 1 before (taking received sent) (Delivery packet) slot.id slot.place chain → ⊥
       by_cause (inl take) = take
       by_cause (inr (inl close)) = close
       by_cause (inr (inr (inl follow))) = no_follow slot.id slot.place chain (taking received sent) follow
-      by_cause (inr (inr (inr delete))) = only (λ w. Cancels w.request slot.id delete.deletes.further.taken → ⊥)
+      by_cause (inr (inr (inr (inl delete)))) = only (λ w. Cancels w.request slot.id delete.deletes.further.taken → ⊥)
           (λ none. none) delete.deletes.cancelled.waiting delete.deletes.cancelled.waits delete.deletes.cancelled.cancels
-  prepares_none before packet received sent records no_follow act due = due
+      by_cause (inr (inr (inr (inr told)))) = unfated 1 1 (taking received sent) slot.id slot.place chain (no_fate slot.id) told.due
+  prepares_none before packet received sent records no_follow no_fate act due = due
+
+  votes_unfated : (received : List Packet) → NoVotes received → (id : ℕ) (known : List Decree) (final : Final) → Knows 1 received id known →
+      final_in known ≡ Some final →
+      ⊥
+  votes_unfated received none id known final knows is = none_known 1 received none id known knows
 
   no_answer : (received sent : List Packet) → NoVotes received → (waiting : Waiting) (answer : Answer) →
       FitsRequest 1 1 (taking received sent) waiting (Submit first_id message) answer →
@@ -170,7 +178,8 @@ module _ (message : Submission) where
     abandoned = none_due (DueToAbandon 1 1 (taking heard_2 one_sent) records_2 (Delivery (Prepare 1 taken_slot first_ballot))) (λ act due. due);
     prepared = none_due_once (DueToPrepare 1 1 (taking [] one_sent) (taking heard_2 one_sent) records_2
         (Delivery (Prepare 1 taken_slot first_ballot)))
-        (prepares_none (taking [] one_sent) (Prepare 1 taken_slot first_ballot) heard_2 one_sent records_2 (λ id place chain a none. none));
+        (prepares_none (taking [] one_sent) (Prepare 1 taken_slot first_ballot) heard_2 one_sent records_2 (λ id place chain a none. none)
+        (votes_unfated heard_2 votes_2));
     proposed = none_due_once (DueToPropose 1 1 (taking [] one_sent) (taking heard_2 one_sent)) (proposes_none_2 (taking [] one_sent));
     replied = none_due (DueToReply 1 1 (taking heard_2 one_sent)) (replies_none heard_2 one_sent votes_2);
     reported = none_due (DueToReport 1 1 (taking [] one_sent) (taking heard_2 one_sent)) (reports_none (taking [] one_sent) heard_2 one_sent votes_2);
@@ -232,7 +241,8 @@ module _ (message : Submission) where
     abandoned = none_due (DueToAbandon 1 1 (taking heard_3 one_sent) records_2 (Delivery (Promise 1 taken_slot first_ballot None))) (λ act due. due);
     prepared = none_due_once (DueToPrepare 1 1 (taking heard_2 one_sent) (taking heard_3 one_sent) records_2
         (Delivery (Promise 1 taken_slot first_ballot None)))
-        (prepares_none (taking heard_2 one_sent) (Promise 1 taken_slot first_ballot None) heard_3 one_sent records_2 (λ id place chain a none. none));
+        (prepares_none (taking heard_2 one_sent) (Promise 1 taken_slot first_ballot None) heard_3 one_sent records_2 (λ id place chain a none. none)
+        (votes_unfated heard_3 votes_3));
     proposed = one_proposal;
     replied = none_due (DueToReply 1 1 (taking heard_3 one_sent)) (replies_none heard_3 one_sent votes_3);
     reported = none_due (DueToReport 1 1 (taking heard_2 one_sent) (taking heard_3 one_sent)) (reports_none (taking heard_2 one_sent) heard_3 one_sent votes_3);
@@ -286,7 +296,7 @@ module _ (message : Submission) where
     prepared = none_due_once (DueToPrepare 1 1 (taking heard_3 two_sent) (taking heard_4 two_sent) records_4
         (Delivery (Propose 1 taken_slot (taken_vote message))))
         (prepares_none (taking heard_3 two_sent) (Propose 1 taken_slot (taken_vote message)) heard_4 two_sent records_4
-        (λ id place chain a none. none));
+        (λ id place chain a none. none) (votes_unfated heard_4 votes_4));
     proposed = none_due_once (DueToPropose 1 1 (taking heard_3 two_sent) (taking heard_4 two_sent))
         (proposes_none heard_3 heard_4 (all_of_one 1 _ refl (None, inl refl)));
     replied = none_due (DueToReply 1 1 (taking heard_4 two_sent)) (replies_none heard_4 two_sent votes_4);
@@ -308,8 +318,12 @@ module _ (message : Submission) where
   known_is id chain known = knows_one 1 heard_5 first_id chain (taken_chain message)
       (subst (λ (i : ℕ). Knows 1 heard_5 i chain) (known_id id chain known) known) taken_known
 
+  unfated_5 : (id : ℕ) (known : List Decree) (final : Final) → Knows 1 heard_5 id known → final_in known ≡ Some final → ⊥
+  unfated_5 id known final knows is = let none : None ≡ Some final = sym (ap final_in (known_is id known knows)) ∙ is in cc
+
   unreported_5 : (before : Actor) (act : Act) → DueToReport 1 1 before (taking heard_5 two_sent) act → ⊥
-  unreported_5 before (Reports id chain) due = let none : Some due.final ≡ None = sym due.ends ∙ ap final_in (known_is id chain due.known) in cc
+  unreported_5 before (Reports id chain) due =
+      untold_newest 1 (taking heard_5 two_sent) chain (decreed (Taken message)) [] (known_is id chain due.known) (λ is. cc) due.told
   unreported_5 before act due = due
 
   only_accepted : (waiting : Waiting) (answer : Answer) → FitsRequest 1 1 (taking heard_5 two_sent) waiting (Submit first_id message) answer → answer ≡ Accepted
@@ -363,7 +377,7 @@ module _ (message : Submission) where
     prepared = none_due_once (DueToPrepare 1 1 (taking heard_4 two_sent) (taking heard_5 two_sent) records_4
         (Delivery (Voted 1 taken_slot (taken_vote message))))
         (prepares_none (taking heard_4 two_sent) (Voted 1 taken_slot (taken_vote message)) heard_5 two_sent records_4
-        (λ id place chain a none. none));
+        (λ id place chain a none. none) unfated_5);
     proposed = none_due_once (DueToPropose 1 1 (taking heard_4 two_sent) (taking heard_5 two_sent))
         (proposes_none heard_4 heard_5 (all_of_one 1 _ refl (None, inr (inl refl))));
     replied = replies_one;

@@ -2,7 +2,8 @@
 use Rattle.std.proofs.Common.{◌≡◌, ℕ, suc, ◌<◌, ◌≤◌, Bool, List, [], ◌∷◌, ◌++◌, length, Some, refl, sym, ◌∙◌, ap, subst, inl, inr, arith}
 use Rattle.std.proofs.lemmas.Bool.{cases_lt}
 use Rattle.mc_model.specs.message.Submission.{Submission}
-use Rattle.mc_model.specs.message.Decree.{Decree, Kind, Taken, Attempt, Failed, Fate, Delivered, Expired, Undeliverable}
+use Rattle.mc_model.specs.message.Decree.{Decree, Kind, Taken, Attempt, Failed, Fate, Told, Delivered, Expired, Undeliverable}
+use Rattle.mc_model.specs.message.Receipts.{AsksReceipt}
 use Rattle.mc_model.specs.message.Chain.{MayExtend, taken_in}
 use Rattle.mc_model.specs.synod.Lists.{In}
 use Rattle.mc_model.specs.synod.Ballot.{proposer_of, incarnation_in}
@@ -16,13 +17,13 @@ use Rattle.mc_model.specs.node.Act.{Act, Settles, Replies, Asks, Abandons, Prepa
 use Rattle.mc_model.specs.node.Effect.{did}
 use Rattle.mc_model.specs.node.Rounds.{HasSeen, MayPrepare}
 use Rattle.mc_model.specs.node.Rules.{next_decree, IsDue, GoesFurther}
-use Rattle.mc_model.specs.node.FirstRule.{Rule, Take, Follow, Close, Lose, GiveUp, Delete, Expire, Undeliver, Try, FitsRule, IsFirstRule, order_of}
+use Rattle.mc_model.specs.node.FirstRule.{Announce, Rule, Take, Follow, Close, Lose, GiveUp, Delete, Expire, Undeliver, Try, FitsRule, IsFirstRule, order_of}
 use Rattle.mc_model.specs.node.Input.{Tick}
 use Rattle.mc_model.specs.node.Due.{AreDue, key_of}
 use Rattle.mc_model.specs.node.Phases.{DueToSettle, DueToEnd, DueToAsk, DueToAbandon, DueToPrepare, DueToPropose, DueToReply, DueToReport}
 use Rattle.mc_model.specs.node.Step.{IsExact}
 use Rattle.mc_model.specs.node.Alone.{IsStepAlone}
-use Rattle.mc_laws.specs.Stories.{first_id, first_ballot, first_setup, decreed, taken_chain, attempted_chain, delivered_chain, MayBeTried}
+use Rattle.mc_laws.specs.Stories.{first_id, first_ballot, first_setup, decreed, taken_chain, attempted_chain, delivered_chain, told_chain, MayBeTried}
 use Rattle.mc_laws.specs.NodeStories.{knowing, no_records, node_of_actor, opening_ballot, all_up, none_up}
 use Rattle.mc_laws.specs.TickStories.{one_minute_later, expired_chain, undelivered_chain, lost_chain, given_up_chain, starting, giving_up, failed_chain}
 use Rattle.mc_laws.proofs.story.Rounds.{one_of_one}
@@ -86,6 +87,7 @@ module _ (incarnation clock : ℕ) (newest : Decree) (older : List Decree) (gran
   rule_id id place chain Expire fits = further_id id place chain _ fits.further
   rule_id id place chain Undeliver fits = further_id id place chain _ fits.due.further
   rule_id id place chain Try fits = further_id id place chain _ fits.due.further
+  rule_id id place chain Announce fits = further_id id place chain _ fits.further
 
   -- no request waits, and no round runs
   settles_none : (act : Act) → DueToSettle 1 1 now act → ⊥
@@ -110,7 +112,7 @@ module _ (incarnation clock : ℕ) (newest : Decree) (older : List Decree) (gran
 
   -- what is known now was known before
   reports_none : (act : Act) → DueToReport 1 1 before now act → ⊥
-  reports_none (Reports id chain) due = due.new chain due.final due.known due.ends
+  reports_none (Reports id chain) due = due.new due.known
   reports_none act due = due
 
   seen_none : (slot : Slot) (round : ℕ) → HasSeen 1 now no_records slot round → round ≡ 0
@@ -207,6 +209,7 @@ module _ (incarnation clock : ℕ) (newest : Decree) (older : List Decree) (gran
   first_two place chain Expire below fits = omega (arith, below)
   first_two place chain Undeliver below fits = omega (arith, below)
   first_two place chain Try below fits = omega (arith, below)
+  first_two place chain Announce below fits = omega (arith, below)
 
   -- the newest decree is no attempt
   first_six : ((number : ℕ) → newest.kind ≡ Attempt number → ⊥) → (place : ℕ) (chain : List Decree) (rule : Rule) → order_of rule < 7 →
@@ -224,6 +227,7 @@ module _ (incarnation clock : ℕ) (newest : Decree) (older : List Decree) (gran
   first_six none place chain Expire below fits = omega (arith, below)
   first_six none place chain Undeliver below fits = omega (arith, below)
   first_six none place chain Try below fits = omega (arith, below)
+  first_six none place chain Announce below fits = omega (arith, below)
 
   abbrev goes_further : (taken : Submission) (kind : Kind) → taken_in (newest ∷ older) ≡ Some taken →
       GoesFurther 1 1 after_tick first_id (length (newest ∷ older)) (next_decree 1 after_tick newest kind ∷ newest ∷ older) kind
@@ -292,6 +296,7 @@ try_first message tried = record {
         (sym (is_newest 1 opening_clock (decreed (Taken message)) [] [] [] opening_clock all_up place chain _ fits.due.further)) ∙ fits.failed in
         cc
     others Try place chain late below fits = omega (arith, below)
+    others Announce place chain late below fits = omega (arith, below)
     others Take place chain late below fits = omega (arith, late)
     others Follow place chain late below fits = omega (arith, late)
     others Close place chain late below fits = omega (arith, late)
@@ -342,6 +347,7 @@ undeliver_first message tried = record {
         omega (arith, over, valid)
     others Undeliver place chain late below fits = omega (arith, below)
     others Try place chain late below fits = omega (arith, below)
+    others Announce place chain late below fits = omega (arith, below)
     others Take place chain late below fits = omega (arith, late)
     others Follow place chain late below fits = omega (arith, late)
     others Close place chain late below fits = omega (arith, late)
@@ -394,6 +400,7 @@ lose_first message = record {
     earlier Expire place chain below fits = omega (arith, below)
     earlier Undeliver place chain below fits = omega (arith, below)
     earlier Try place chain below fits = omega (arith, below)
+    earlier Announce place chain below fits = omega (arith, below)
 
 -- an attempt is given up
 give_up_first : (message : Submission) →
@@ -429,6 +436,37 @@ give_up_first message = record {
     earlier Expire place chain below fits = omega (arith, below)
     earlier Undeliver place chain below fits = omega (arith, below)
     earlier Try place chain below fits = omega (arith, below)
+    earlier Announce place chain below fits = omega (arith, below)
+
+-- the receipt on a fate is to be told
+announce_first : (message : Submission) → AsksReceipt Delivered message →
+    IsFirstRule 1 1 (after_tick 1 opening_clock (decreed (Fate Delivered 0)) (attempted_chain message) []
+    [] opening_clock all_up) no_records all_up first_id 3 (told_chain message) Announce
+announce_first message asked = record {
+  fits = record {
+    further = goes_further 1 opening_clock (decreed (Fate Delivered 0)) (attempted_chain message) [] [] opening_clock all_up message Told refl;
+    may = (omega arith, record { node = refl; asked = asked });
+  };
+  first = before_last 1 opening_clock (decreed (Fate Delivered 0)) (attempted_chain message) [] [] opening_clock all_up (λ number same. cc) 10 others;
+}
+  where
+    others : (rule : Rule) (place : ℕ) (chain : List Decree) → 6 < order_of rule → order_of rule < 10 →
+        FitsRule 1 1 (after_tick 1 opening_clock (decreed (Fate Delivered 0)) (attempted_chain message) []
+        [] opening_clock all_up) no_records all_up first_id place chain rule →
+        ⊥
+    others Expire place chain late below fits =
+        (due_here 1 opening_clock (decreed (Fate Delivered 0)) (attempted_chain message) [] [] opening_clock all_up place chain _ message refl fits).1
+    others Undeliver place chain late below fits =
+        (due_here 1 opening_clock (decreed (Fate Delivered 0)) (attempted_chain message) [] [] opening_clock all_up place chain _ message refl fits.due).1
+    others Try place chain late below fits =
+        (due_here 1 opening_clock (decreed (Fate Delivered 0)) (attempted_chain message) [] [] opening_clock all_up place chain _ message refl fits.due).1
+    others Announce place chain late below fits = omega (arith, below)
+    others Take place chain late below fits = omega (arith, late)
+    others Follow place chain late below fits = omega (arith, late)
+    others Close place chain late below fits = omega (arith, late)
+    others Lose place chain late below fits = omega (arith, late)
+    others GiveUp place chain late below fits = omega (arith, late)
+    others Delete place chain late below fits = omega (arith, late)
 
 -- ---- as steps of the node
 
@@ -484,6 +522,13 @@ pub lose_step : (message : Submission) →
 lose_step message =
     started_alone 2 opening_clock (decreed (Attempt 1)) (taken_chain message) [] [] opening_clock all_up Lose (lost_chain message) refl refl
     (lose_first message) (λ same. omega (arith, same)) refl
+
+pub announce_step : (message : Submission) → AsksReceipt Delivered message →
+    IsStepAlone first_setup (node_of_actor (knowing 1 opening_clock (delivered_chain message) [] [])) (Tick opening_clock all_up)
+    (starting 1 opening_clock (told_chain message))
+announce_step message asked =
+    started_alone 1 opening_clock (decreed (Fate Delivered 0)) (attempted_chain message) [] [] opening_clock all_up Announce (told_chain message) refl refl
+    (announce_first message asked) (λ same. omega (arith, same)) refl
 
 -- the attempt that is given up
 abandoned_one : (message : Submission) →

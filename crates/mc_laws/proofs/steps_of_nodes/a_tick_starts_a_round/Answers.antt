@@ -1,4 +1,4 @@
-use Rattle.mc_laws.proofs.story.Ticks.{try_step, expire_step, undeliver_step, close_step, lose_step, give_up_step}
+use Rattle.mc_laws.proofs.story.Ticks.{try_step, expire_step, undeliver_step, close_step, lose_step, give_up_step, announce_step}
 use Rattle.mc_laws.proofs.story.Retrying.{take_step, follow_step, delete_step}
 use Rattle.mc_laws.proofs.steps_of_nodes.a_tick_starts_a_round.Goals as goal
 
@@ -19,6 +19,9 @@ returns-clause-lose c = lose_step
 
 pub returns-clause-give_up : goal.returns-clause-give_up
 returns-clause-give_up c = give_up_step
+
+pub returns-clause-announce : goal.returns-clause-announce
+returns-clause-announce c = announce_step
 
 pub returns-clause-take : goal.returns-clause-take
 returns-clause-take c = take_step

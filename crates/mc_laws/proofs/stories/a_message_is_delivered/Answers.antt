@@ -1,5 +1,5 @@
 use Rattle.std.proofs.Common.{refl, inl}
-use Rattle.mc_laws.specs.Stories.{delivered_chain}
+use Rattle.mc_laws.specs.Stories.{told_chain}
 use Rattle.mc_laws.proofs.story.Delivery.{delivery_run}
 use Rattle.mc_laws.proofs.stories.a_message_is_delivered.Goals as goal
 
@@ -10,4 +10,4 @@ pub returns-clause-told : goal.returns-clause-told
 returns-clause-told c = λ message. inl refl
 
 pub returns-clause-stated : goal.returns-clause-stated
-returns-clause-stated c = λ message. record { chain = delivered_chain message; tells = (refl, refl); state = refl }
+returns-clause-stated c = λ message. record { chain = told_chain message; tells = (refl, refl); state = refl }
