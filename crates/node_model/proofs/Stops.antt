@@ -12,7 +12,7 @@ use Rattle.node_model.specs.Kept.{Held, Kept, message_at, with_message}
 use Rattle.node_model.specs.Learner.{heard, makes_known}
 use Rattle.node_model.specs.Outputs.{Stepped, leaves}
 use Rattle.node_model.specs.Answers.{answer_to}
-use Rattle.node_model.specs.Packets.{answer_told, heard_in, is_member, is_own_name, known_then, on_ask, on_known, on_packet, on_prepare}
+use Rattle.node_model.specs.Packets.{answer_told, heard_in, is_member, is_own_name, known_then, on_ask, on_known, on_packet, on_prepare, start_known}
 use Rattle.node_model.specs.Packets.{on_promise, on_propose, on_refused, on_tell, on_voted, promised_in, settled_for, settled_told}
 use Rattle.node_model.specs.Packets.{start_told, tell_held, tells_about, told_to, vote_concerns}
 use Rattle.node_model.specs.Proposer.{Prepared, Start, is_free, is_own_ballot, refused, runs_at, started}
@@ -46,7 +46,7 @@ promised_leaves setup k m (Some r) sender slot ballot report = either (runs_at (
 voted_leaves : (setup : Setup) (k : Kept) (id : ℕ) (m : Message) (vote : Vote) → Leaves (heard_in setup k id m vote) k.records
 voted_leaves setup k id m vote =
     either (makes_known setup.nodes m vote) (on_known setup k id m vote.chain) (leaves (with_message k id m)) k.records
-    (started_leaves setup learned id (delete_for setup learned id learned.held (Some vote.chain))) refl
+    (started_leaves setup learned id (start_known setup learned id m.known vote.chain)) refl
   where
     learned : Kept
     learned = record (with_message k id (known_then m vote.chain)) { held = map (settled_for setup.nodes id vote.chain) k.held }

@@ -1,10 +1,10 @@
 -- What a request that waits is answered, by what is known (SMPP 3.4, 4.4.2, 4.8.2 and 4.9.2).
-use Rattle.std.specs.Prelude.{ℕ, ◌%◌, Bool, false, ◌==◌, ◌&&◌, ◌||◌, not, List, [], ◌∷◌, Option, Some, None, if◌then◌else◌}
+use Rattle.std.specs.Prelude.{ℕ, ◌%◌, Bool, false, ◌==◌, ◌&&◌, ◌||◌, not, List, [], ◌∷◌, length, Option, Some, None, if◌then◌else◌}
 use Rattle.std.specs.Option.{is_none}
 use Rattle.std.specs.Str.{bytes_eq}
 use Rattle.mc_model.specs.message.Ids.{node_of}
 use Rattle.mc_model.specs.message.Submission.{Submission}
-use Rattle.mc_model.specs.message.Decree.{Decree, Deleted, Delivered, Expired, Failed, Final, Kind, Rejected, Taken, Undeliverable}
+use Rattle.mc_model.specs.message.Decree.{Author, Decree, Deleted, Delivered, Expired, Failed, Final, Kind, Rejected, Taken, Told, Undeliverable}
 use Rattle.mc_model.specs.message.Chain.{final_in, taken_in}
 use Rattle.mc_model.specs.node.Actor.{Cancel, Query, Request, Submit}
 use Rattle.mc_model.specs.node.Replies.{Accepted, Answer, Kept as Keeps, NotMatched, NotOwner, Removed, Shown, Unknown}
@@ -82,16 +82,25 @@ abbrev pub is_asked : Final → Submission → Bool
 is_asked Delivered taken = taken.registered_delivery % 4 == 1
 is_asked final taken = (taken.registered_delivery % 4 == 1) || (taken.registered_delivery % 4 == 2)
 
-abbrev pub receipt_by : ℕ → List Decree → Option Final → Option Submission → List Receipt
-receipt_by id chain None taken = []
-receipt_by id chain (Some final) None = []
-receipt_by id chain (Some final) (Some taken) = if is_asked final taken then record { id = id; chain = chain } ∷ [] else []
-
 abbrev pub had_fate : Option (List Decree) → Bool
 had_fate None = false
 had_fate (Some chain) = not (is_none (final_in chain))
 
--- the node that the id names writes one when it first knows a final state
-abbrev pub receipts_of : ℕ → ℕ → Option (List Decree) → List Decree → List Receipt
-receipts_of node id before chain =
-    if (node_of id == node) && not (had_fate before) then receipt_by id chain (final_in chain) (taken_in chain) else []
+-- a decree tells one, of the node in its incarnation
+abbrev pub is_told_by : ℕ → ℕ → Author → Kind → Bool
+is_told_by node incarnation author Told = (author.node == node) && (author.incarnation == incarnation)
+is_told_by node incarnation author kind = false
+
+abbrev pub ends_told : ℕ → ℕ → List Decree → Bool
+ends_told node incarnation [] = false
+ends_told node incarnation (newest ∷ older) = is_told_by node incarnation newest.author newest.kind
+
+-- a chain is known that was known before
+abbrev pub is_known_so : Option (List Decree) → List Decree → Bool
+is_known_so None chain = false
+is_known_so (Some known) chain = length known == length chain
+
+-- the node that the id names writes one when it first knows its Told of this incarnation
+abbrev pub receipts_of : ℕ → ℕ → ℕ → Option (List Decree) → List Decree → List Receipt
+receipts_of node incarnation id before chain =
+    if (node_of id == node) && (ends_told node incarnation chain && not (is_known_so before chain)) then record { id = id; chain = chain } ∷ [] else []

@@ -1,5 +1,6 @@
 -- What a node does with a packet that comes to it.
 use Rattle.std.specs.Prelude.{ℕ, Bool, true, ◌==◌, ◌&&◌, ◌||◌, not, nat_le, nat_lt, List, [], ◌∷◌, filter, map, Option, Some, None, if◌then◌else◌}
+use Rattle.std.specs.Option.{option_or}
 use Rattle.mc_model.specs.message.Ids.{incarnation_of, node_of, serial_of}
 use Rattle.mc_model.specs.message.Decree.{Decree}
 use Rattle.mc_model.specs.synod.OneSlot.{Vote}
@@ -13,7 +14,7 @@ use Rattle.node_model.specs.Learner.{heard, makes_known}
 use Rattle.node_model.specs.Proposer.{Prepared, Start, completes, is_own_ballot, offered, promised_by, refused, runs_at, started, unless_reached}
 use Rattle.node_model.specs.Requests.{held_at, id_of, settled_by, settles, ticket_of, told_by, with_held}
 use Rattle.node_model.specs.Answers.{answer_to, receipts_of, replied, replies_to, still_waits}
-use Rattle.node_model.specs.Starts.{delete_for, follow_told}
+use Rattle.node_model.specs.Starts.{delete_for, follow_told, tell_for}
 use Rattle.node_model.specs.Outputs.{Stepped, leaves, sends}
 
 -- ---- as an acceptor
@@ -56,7 +57,7 @@ on_refused setup k slot ballot promised =
 
 -- ---- as a learner
 
--- a chain becomes known: requests are settled and answered, a deletion is started, and a receipt is due
+-- a chain becomes known: requests are settled and answered, a deletion is started, or that a receipt is told, and a receipt is due
 abbrev pub known_then : Message → List Decree → Message
 known_then m chain = record m { known = Some chain; round = unless_reached chain m.round }
 
@@ -69,15 +70,17 @@ answered_then setup k id before chain prepared =
     (record prepared.kept { held = filter (still_waits setup.nodes (Some chain) id) k.held })
     prepared.packets
     (replies_to setup.nodes (Some chain) id k.held)
-    (receipts_of setup.node id before chain)
+    (receipts_of setup.node k.incarnation id before chain)
 
-abbrev pub deleted_then : Setup → Kept → ℕ → Option (List Decree) → List Decree → Stepped
-deleted_then setup k id before chain =
-    answered_then setup k id before chain (started setup k id (delete_for setup k id k.held (Some chain)))
+abbrev pub start_known : Setup → Kept → ℕ → Option (List Decree) → List Decree → Option Start
+start_known setup k id before chain = option_or (delete_for setup k id k.held (Some chain)) (tell_for setup k before chain)
+
+abbrev pub started_then : Setup → Kept → ℕ → Option (List Decree) → List Decree → Stepped
+started_then setup k id before chain = answered_then setup k id before chain (started setup k id (start_known setup k id before chain))
 
 abbrev pub on_known : Setup → Kept → ℕ → Message → List Decree → Stepped
 on_known setup k id m chain =
-    deleted_then
+    started_then
     setup
     (record (with_message k id (known_then m chain)) { held = map (settled_for setup.nodes id chain) k.held })
     id

@@ -8,13 +8,13 @@ use Rattle.mc_model.specs.message.Chain.{attempts_in, taken_in}
 use Rattle.mc_model.specs.synod.Packet.{TopVote}
 use Rattle.mc_model.specs.node.Outcome.{Outcome, decree_of, no_session_error, older_incarnation_error}
 use Rattle.mc_model.specs.node.Setup.{Setup}
-use Rattle.mc_model.specs.node.FirstRule.{Close, Delete, Expire, Follow, GiveUp, Lose, Rule, Take, Try, Undeliver}
+use Rattle.mc_model.specs.node.FirstRule.{Announce, Close, Delete, Expire, Follow, GiveUp, Lose, Rule, Take, Try, Undeliver}
 use Rattle.node_model.specs.Acceptor.{told_of}
 use Rattle.node_model.specs.Message.{Message}
 use Rattle.node_model.specs.Kept.{Held, Kept, message_at}
 use Rattle.node_model.specs.Requests.{higher_top, id_of}
 use Rattle.node_model.specs.Proposer.{Start}
-use Rattle.node_model.specs.Starts.{delete_for, follow, is_idle, moment_behind, start_behind, take_for}
+use Rattle.node_model.specs.Starts.{announced, delete_for, follow, is_idle, moment_behind, start_behind, take_for}
 
 -- a rule that fits, and the round that it starts
 pub record Fitting : Type 0 where
@@ -119,7 +119,8 @@ idle_rule setup k id taken up newest older =
     option_or (fitting Delete (delete_for setup k id k.held (Some (newest ∷ older))))
     (option_or (fitting Expire (expiring setup k taken newest older))
     (option_or (fitting Undeliver (undelivered setup k newest older newest.kind))
-    (fitting Try (if_so up (tried setup k taken newest older newest.kind)))))
+    (option_or (fitting Try (if_so up (tried setup k taken newest older newest.kind)))
+    (fitting Announce (announced setup k taken newest older newest.kind)))))
 
 abbrev pub own_rule : Setup → Kept → (List ℕ → Bool) → ℕ → Decree → List Decree → Option Submission → Option Fitting
 own_rule setup k up id newest older None = None

@@ -3,13 +3,13 @@ use Rattle.std.specs.Prelude.{ℕ, pred, max, Bool, true, false, ◌==◌, ◌&&
 use Rattle.std.specs.List.{list_any}
 use Rattle.mc_model.specs.message.Submission.{Submission}
 use Rattle.mc_model.specs.message.Decree.{Attempt, Decree, Deleted, Failed, Fate, Kind, Taken, Told}
-use Rattle.mc_model.specs.message.Chain.{taken_in}
+use Rattle.mc_model.specs.message.Chain.{home_in, taken_in}
 use Rattle.mc_model.specs.synod.Packet.{TopVote}
 use Rattle.mc_model.specs.node.Actor.{Cancel, Query, Request, Submit}
 use Rattle.mc_model.specs.node.Setup.{Setup}
 use Rattle.node_model.specs.Sets.{is_majority}
 use Rattle.node_model.specs.Kept.{Held, Kept, author_at}
-use Rattle.node_model.specs.Answers.{is_match}
+use Rattle.node_model.specs.Answers.{had_fate, is_asked, is_match}
 use Rattle.node_model.specs.Proposer.{Start}
 
 -- ---- the message of a submit_sm is taken
@@ -78,3 +78,24 @@ abbrev pub delete_for : Setup → Kept → ℕ → List Held → Option (List De
 delete_for setup k id held None = None
 delete_for setup k id held (Some []) = None
 delete_for setup k id held (Some (newest ∷ older)) = delete_of setup k id held newest older (taken_in (newest ∷ older))
+
+-- ---- the receipt on a fate is told, by the node that took the message
+
+abbrev pub announced : Setup → Kept → Submission → Decree → List Decree → Kind → Option Start
+announced setup k taken newest older (Taken message) = None
+announced setup k taken newest older (Attempt number) = None
+announced setup k taken newest older (Failed error) = None
+announced setup k taken newest older (Fate final error) =
+    if (setup.node == home_in (newest ∷ older)) && is_asked final taken
+    then Some (start_behind setup k newest older Told)
+    else None
+announced setup k taken newest older Told = None
+
+abbrev pub tell_of : Setup → Kept → Decree → List Decree → Option Submission → Option Start
+tell_of setup k newest older None = None
+tell_of setup k newest older (Some taken) = announced setup k taken newest older newest.kind
+
+-- once it becomes known, if none was known before
+abbrev pub tell_for : Setup → Kept → Option (List Decree) → List Decree → Option Start
+tell_for setup k before [] = None
+tell_for setup k before (newest ∷ older) = if had_fate before then None else tell_of setup k newest older (taken_in (newest ∷ older))
