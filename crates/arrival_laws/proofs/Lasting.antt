@@ -2,7 +2,7 @@
 use Rattle.std.proofs.Common.{◌≡◌, ℕ, suc, pred, Bool, true, false, List, [], ◌∷◌, Option, Some, None, refl, ◌∙◌}
 use Rattle.std.specs.Prelude.{if◌then◌else◌}
 use Rattle.mc_model.specs.synod.Packet.{slot_at}
-use Rattle.mc_model.specs.node.FirstRule.{Close, Delete, Expire, Follow, GiveUp, Lose, Rule, Take, Try, Undeliver}
+use Rattle.mc_model.specs.node.FirstRule.{Announce, Close, Delete, Expire, Follow, GiveUp, Lose, Rule, Take, Try, Undeliver}
 use Rattle.mc_model.specs.node.Setup.{Setup}
 use Rattle.node_model.specs.Message.{Message}
 use Rattle.node_model.specs.Kept.{Kept, message_at, with_message}
@@ -53,6 +53,7 @@ giving_up_lasts Delete k id place = lasts_still k
 giving_up_lasts Expire k id place = lasts_still k
 giving_up_lasts Undeliver k id place = lasts_still k
 giving_up_lasts Try k id place = lasts_still k
+giving_up_lasts Announce k id place = lasts_still k
 
 rule_lasts : (setup : Setup) (k : Kept) (id : ℕ) (fit : Option Fitting) → Lasts k (ruled setup k id fit).kept
 rule_lasts setup k id None = lasts_still k

@@ -20,10 +20,10 @@ use Rattle.node_model.specs.Proposer.{is_own_ballot, promised_by, refused, runs_
 use Rattle.node_model.specs.Requests.{begun, held_at, id_of, settled_by, ticket_of, told_by, with_held}
 use Rattle.node_model.specs.Answers.{answer_to, still_waits}
 use Rattle.node_model.specs.Attempts.{closed_by, concluded, on_grant, on_response}
-use Rattle.node_model.specs.Starts.{delete_for, take_for}
+use Rattle.node_model.specs.Starts.{take_for}
 use Rattle.node_model.specs.Outputs.{Stepped, leaves, sends}
 use Rattle.node_model.specs.Packets.{answer_told, if_member, is_member, is_own_name, known_then, on_known, on_packet, on_promise}
-use Rattle.node_model.specs.Packets.{on_refused, on_tell, on_voted, promised_in, proposals, settled_for, settled_told, start_told}
+use Rattle.node_model.specs.Packets.{on_refused, on_tell, on_voted, promised_in, proposals, settled_for, settled_told, start_known, start_told}
 use Rattle.node_model.specs.Packets.{tell_held, tells_about, told_to, vote_concerns}
 use Rattle.node_model.specs.Stepped.{stepped, stepped_down, stepped_up}
 use Rattle.node_model.specs.Ticks.{ids_of, is_late, late_reply, ruled_each, ticked, waits_too}
@@ -101,10 +101,10 @@ module _ (setup : Setup) (k : Kept) (id : ℕ) (m : Message) (chain : List Decre
   knowing = record (with_message k id (known_then m chain)) { held = map (settled_for setup.nodes id chain) k.held }
 
   abbrev begun_round : Kept
-  begun_round = (started setup knowing id (delete_for setup knowing id knowing.held (Some chain))).kept
+  begun_round = (started setup knowing id (start_known setup knowing id m.known chain)).kept
 
   lasts : Lasts knowing begun_round
-  lasts = start_lasts setup knowing id (delete_for setup knowing id knowing.held (Some chain))
+  lasts = start_lasts setup knowing id (start_known setup knowing id m.known chain)
 
   waited : (h : Held) → In h knowing.held → IsAsked k.held (id_of h)
   waited h among = changed_held (settled_for setup.nodes id chain) (settled_for_id setup.nodes id chain) k.held h among

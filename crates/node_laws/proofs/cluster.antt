@@ -8,3 +8,4 @@ pub mod Lives
 pub mod Delivered
 pub mod Fresh
 pub mod Chosen
+pub mod OneReceipt

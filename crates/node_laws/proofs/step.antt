@@ -22,6 +22,7 @@ pub mod TickActs
 pub mod TickSteps
 pub mod Busy
 pub mod Deleting
+pub mod Announcing
 pub mod Reporting
 pub mod Voting
 pub mod Beginning

@@ -1,5 +1,5 @@
 -- A cluster of nodes by what they keep, and the packets between them.
-use Rattle.std.specs.Prelude.{◌≡◌, ◌⊎◌, ℕ, List, [], ◌∷◌, ◌++◌, map, reverse, Some}
+use Rattle.std.specs.Prelude.{◌≡◌, ◌⊎◌, ℕ, ◌≤◌, ◌==◌, List, [], ◌∷◌, ◌++◌, count_by, flat_map, map, reverse, Some}
 use Rattle.mc_model.specs.message.Decree.{Attempt, Decree, Delivered, Fate, Final}
 use Rattle.mc_model.specs.message.Chain.{final_in, untold}
 use Rattle.mc_model.specs.synod.Lists.{In}
@@ -7,7 +7,7 @@ use Rattle.mc_model.specs.synod.Packet.{Packet, Slot, slot_of}
 use Rattle.mc_model.specs.node.Alone.{opened_new as node_new, reached_alone}
 use Rattle.mc_model.specs.node.Input.{Crash, Delivery, Grant, Input, Response, Restart}
 use Rattle.mc_model.specs.node.Outcome.{Concluded}
-use Rattle.mc_model.specs.node.Outputs.{Outputs, Reply, outputs_of}
+use Rattle.mc_model.specs.node.Outputs.{Outputs, Receipt, Reply, outputs_of}
 use Rattle.mc_model.specs.cluster.Fate.{shown_by}
 use Rattle.mc_model.specs.cluster.Assembly.{acts_of}
 use Rattle.mc_model.specs.cluster.Steps.{AreSteps, Cluster, Step, acts_in, setup_of}
@@ -116,6 +116,14 @@ pub record StatesFinal (outputs : Outputs) (id : ℕ) (final : Final) : Type 0 w
   pub chain : List Decree
   pub tells : RepliesWith outputs id chain ⊎ In (record { id = id; chain = chain }) outputs.receipts
   pub state : final_in chain ≡ Some final
+
+-- all receipts that are given out
+abbrev pub receipts_given : List Outputs → List Receipt
+receipts_given given = flat_map (λ outputs. outputs.receipts) given
+
+-- of each message_id there is one at most
+abbrev pub OneOfEach : List Receipt → Type 0
+OneOfEach receipts = (id : ℕ) → count_by (λ receipt. receipt.id == id) receipts ≤ 1
 
 -- an attempt of a message is granted
 pub record GrantsOut (outputs : Outputs) (id : ℕ) : Type 0 where

@@ -17,12 +17,14 @@ ghost use Rattle.node_laws.specs.Clusters.{
   LivesOn,
   MayHappen,
   NodeInput,
+  OneOfEach,
   RunsTogether,
   StatesFinal,
   cluster_outputs,
   comes_to,
   kept_reached,
   outputs_at,
+  receipts_given,
 };
 
 /// For every list of inputs of a cluster of nine nodes at most, in which packets are delivered, lost, repeated or reordered and nodes
@@ -86,4 +88,9 @@ pub fn a_later_request_is_of_a_known_message()
         (outputs_at cluster older (comes_to node (Arrival request))).ticket ≡ Some ticket → LivesOn node middle →
         In (record { ticket = ticket; id = id; answer = Unknown })
         (outputs_at cluster (middle ++ comes_to node (Arrival request) ∷ older) (comes_to node next)).replies → ⊥ }
+{}
+
+/// And of each message_id one receipt is given out at most, by whatever node and in whichever of its lives, however often nodes stop and start anew.
+pub fn one_receipt_is_given_out()
+    ensures { (cluster : Cluster) (inputs : List NodeInput) → MayHappen cluster inputs → OneOfEach (receipts_given (cluster_outputs cluster inputs)) }
 {}

@@ -9,7 +9,7 @@ ghost use Rattle.mc_model.specs.node.Input.{Arrival, Delivery, Tick};
 ghost use Rattle.mc_model.specs.node.Replies.{Accepted, Kept, NotOwner, Removed, Shown, TooLate, Unknown};
 ghost use Rattle.node_model.specs.Kept.{message_at};
 ghost use Rattle.node_model.specs.Attempts.{grant_refusal};
-ghost use Rattle.mc_parts.specs.FirstMessage.{account, attempted, delivered, first_id, sender, taken};
+ghost use Rattle.mc_parts.specs.FirstMessage.{account, attempted, told, first_id, sender, taken};
 ghost use Rattle.node_laws.specs.Examples.{
   all_up,
   alone,
@@ -73,14 +73,14 @@ pub fn a_message_is_cancelled_alone()
         ∷ [] }
 {}
 
-/// A tick begins the first attempt; it is granted once; and with ESME_ROK the message is DELIVERED, and its receipt goes out.
+/// A tick begins the first attempt; it is granted once; and with ESME_ROK the message is DELIVERED, its receipt is told, and goes out.
 pub fn a_message_is_delivered_alone()
     ensures before { grant_refusal alone (played_alone submits).kept first_id ≡ Some NotChosen }
     ensures begun { (message_at (played_alone attempts).kept first_id).known ≡ Some attempted }
     ensures given { grant_refusal alone (played_alone attempts).kept first_id ≡ None }
     ensures once { grant_refusal alone (played_alone grants).kept first_id ≡ Some AlreadyGranted }
-    ensures delivered { (message_at (played_alone delivers).kept first_id).known ≡ Some delivered }
-    ensures receipt { (played_alone delivers).receipts ≡ record { id = first_id; chain = delivered } ∷ [] }
+    ensures delivered { (message_at (played_alone delivers).kept first_id).known ≡ Some told }
+    ensures receipt { (played_alone delivers).receipts ≡ record { id = first_id; chain = told } ∷ [] }
 {}
 
 /// After a restart a node learns again how far a chain has come at a tick, by its own vote; an attempt of its older incarnation is

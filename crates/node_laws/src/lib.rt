@@ -17,7 +17,8 @@ pub use attempts::{a_grant_is_exact, a_grant_is_judged, a_response_is_exact};
 pub use clusters::{
     a_cluster_of_nodes_runs, a_delivery_stands_on_an_answered_attempt,
     a_later_query_is_told_the_fate, a_later_request_is_of_a_known_message,
-    no_attempt_is_granted_after_a_fate, one_fate_is_given_out, what_is_given_out_was_chosen,
+    no_attempt_is_granted_after_a_fate, one_fate_is_given_out, one_receipt_is_given_out,
+    what_is_given_out_was_chosen,
 };
 pub use examples::{
     a_message_is_cancelled_alone, a_message_is_delivered_alone, a_message_is_taken_alone,

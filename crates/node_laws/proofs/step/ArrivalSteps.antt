@@ -21,6 +21,7 @@ use Rattle.mc_model.specs.node.Proposal.{IsFirst}
 use Rattle.mc_model.specs.node.Room.{IsFitToWait, IsNumbered, MayWait}
 use Rattle.mc_model.specs.node.Setup.{Setup}
 use Rattle.mc_parts.proofs.Membership.{in_either}
+use Rattle.mc_parts.proofs.Tellings.{unannounced}
 use Rattle.node_model.specs.Answers.{answer_by, answer_to}
 use Rattle.node_model.specs.Kept.{Held, Kept}
 use Rattle.node_model.specs.Proposer.{Prepared, started}
@@ -151,7 +152,9 @@ module _ (setup : Setup) (k : Kept) (s : Node) (stands : Stands setup k s) (work
   takes_only id place chain (inl take) = take
   takes_only id place chain (inr (inl close)) = absurd close
   takes_only id place chain (inr (inr (inl follows))) = absurd follows
-  takes_only id place chain (inr (inr (inr deletes))) = absurd (deletes_none id place chain deletes)
+  takes_only id place chain (inr (inr (inr (inl deletes)))) = absurd (deletes_none id place chain deletes)
+  takes_only id place chain (inr (inr (inr (inr tells)))) = absurd (unannounced setup.nodes setup.node s.actor s1.actor id place chain
+      (λ known knows. knows) tells)
 
   of_request : (of : Request) (id place : ℕ) (chain : List Decree) → Takes of id place chain → (id ≡ id_in of) × (place ≡ 0)
   of_request (Submit other message) id place chain take = (sym take.0, take.1)

@@ -12,7 +12,7 @@ use Rattle.mc_model.specs.synod.Packet.{Name, Packet, Slot, Tell, TopVote, same_
 use Rattle.mc_model.specs.node.Act.{Act, Asks, Prepares, Proposes, Receives, Replies, Reports, Settles}
 use Rattle.mc_model.specs.node.Actor.{Actor}
 use Rattle.mc_model.specs.node.Alone.{MayAlone, Node, StandsAt, began_by}
-use Rattle.mc_model.specs.node.Causes.{Causes, CausesDelete, CausesFollow}
+use Rattle.mc_model.specs.node.Causes.{Causes, CausesDelete, CausesTold, CausesFollow}
 use Rattle.mc_model.specs.node.Concerns.{Concerns}
 use Rattle.mc_model.specs.node.Core.{AcceptorReplies, IsCore, IsRefusal}
 use Rattle.mc_model.specs.node.Due.{AreDue, AreDueOnce}
@@ -23,6 +23,7 @@ use Rattle.mc_model.specs.node.Phases.{DueToAbandon, DueToAsk, DueToEnd, DueToPr
 use Rattle.mc_model.specs.node.Setup.{Setup}
 use Rattle.mc_model.specs.node.Step.{IsExact}
 use Rattle.node_laws.proofs.invariant.Slots.{slot_decides}
+use Rattle.mc_parts.proofs.Tellings.{unannounced}
 use Rattle.node_model.specs.Acceptor.{Judgement}
 use Rattle.node_model.specs.Kept.{Kept, message_at, saved}
 use Rattle.node_model.specs.Outputs.{leaves, sends}
@@ -82,7 +83,9 @@ module _ (setup : Setup) (s : Node) (packet : Packet) (aside : IsAside packet) (
   causes_none id place chain (inl take) = take
   causes_none id place chain (inr (inl close)) = close
   causes_none id place chain (inr (inr (inl follows))) = follows_none setup.nodes setup.node s.actor heard.actor packet id place chain aside.tells follows
-  causes_none id place chain (inr (inr (inr deletes))) = deletes_none id place chain deletes
+  causes_none id place chain (inr (inr (inr (inl deletes)))) = deletes_none id place chain deletes
+  causes_none id place chain (inr (inr (inr (inr tells)))) = unannounced setup.nodes setup.node s.actor heard.actor id place chain
+      (knows_before setup.nodes setup.node s.actor packet aside id) tells
 
   prepares_none : (records : Records) (act : Act) → DueToPrepare setup.nodes setup.node s.actor heard.actor records (Delivery packet) act → ⊥
   prepares_none records (Prepares slot ballot chain) due = causes_none slot.id slot.place chain due.0
@@ -106,7 +109,7 @@ module _ (setup : Setup) (s : Node) (packet : Packet) (aside : IsAside packet) (
 
   reports_none : (act : Act) → DueToReport setup.nodes setup.node s.actor heard.actor act → ⊥
   reports_none (Reports id chain) due =
-      due.new chain due.final (knows_before setup.nodes setup.node s.actor packet aside id chain due.known) due.ends
+      due.new (knows_before setup.nodes setup.node s.actor packet aside id chain due.known)
   reports_none act due = due
 
   -- the packet is received, and the acceptor answers by one act that changes nothing else of the actor
@@ -300,6 +303,9 @@ module _ (setup : Setup) (s : Node) (k : Kept) (stands : Stands setup k s) where
       (record { waiting = cancelled.waiting; waits = cancelled.waits; ticket_is = refl; settled = cancelled.settled })
       deletes.deletes.further.known
 
+  idle_tells : (id place : ℕ) (chain : List Decree) → CausesTold setup.nodes setup.node s.actor s.actor id place chain → ⊥
+  idle_tells id place chain = unannounced setup.nodes setup.node s.actor s.actor id place chain (λ known knows. knows)
+
   idle_proposes : (act : Act) → DueToPropose setup.nodes setup.node s.actor s.actor act → ⊥
   idle_proposes (Proposes slot vote) due = due.0.new due.0.promised
   idle_proposes act due = due
@@ -309,7 +315,7 @@ module _ (setup : Setup) (s : Node) (k : Kept) (stands : Stands setup k s) where
   idle_replies act due = due
 
   idle_reports : (act : Act) → DueToReport setup.nodes setup.node s.actor s.actor act → ⊥
-  idle_reports (Reports id chain) due = due.new chain due.final due.known due.ends
+  idle_reports (Reports id chain) due = due.new due.known
   idle_reports act due = due
 
   -- by an input that does nothing itself, and asks, prepares, ends and gives up nothing
@@ -351,7 +357,8 @@ module _ (setup : Setup) (s : Node) (k : Kept) (stands : Stands setup k s) where
   refusal_causes status id place chain (inl take) = take
   refusal_causes status id place chain (inr (inl close)) = close
   refusal_causes status id place chain (inr (inr (inl follows))) = follows
-  refusal_causes status id place chain (inr (inr (inr deletes))) = idle_deletes id place chain deletes
+  refusal_causes status id place chain (inr (inr (inr (inl deletes)))) = idle_deletes id place chain deletes
+  refusal_causes status id place chain (inr (inr (inr (inr tells)))) = idle_tells id place chain tells
 
   refusal_prepares : (status : ℕ) (act : Act) → DueToPrepare setup.nodes setup.node s.actor s.actor s.records (Refusal status) act → ⊥
   refusal_prepares status (Prepares slot ballot chain) due = refusal_causes status slot.id slot.place chain due.0
@@ -383,7 +390,8 @@ module _ (setup : Setup) (s : Node) (k : Kept) (stands : Stands setup k s) where
   idle_causes packet strange id place chain (inr (inl close)) = close
   idle_causes packet strange id place chain (inr (inr (inl follows))) =
       strange (follows_concern setup.nodes setup.node s.actor s.actor packet id place chain follows)
-  idle_causes packet strange id place chain (inr (inr (inr deletes))) = idle_deletes id place chain deletes
+  idle_causes packet strange id place chain (inr (inr (inr (inl deletes)))) = idle_deletes id place chain deletes
+  idle_causes packet strange id place chain (inr (inr (inr (inr tells)))) = idle_tells id place chain tells
 
   idle_prepares : (packet : Packet) → (Concerns setup.nodes setup.node s.actor packet → ⊥) → (act : Act) →
       DueToPrepare setup.nodes setup.node s.actor s.actor s.records (Delivery packet) act → ⊥

@@ -92,7 +92,7 @@ module _ (setup : Setup) (s : Node) (input : Input) (act : Act) (tells : TellsNo
 
     reports_none : (a : Actor) → a.received ≡ s1.actor.received → (other : Act) → DueToReport setup.nodes setup.node a s1.actor other → ⊥
     reports_none a same (Reports of chain) due =
-        due.new chain due.final (subst (λ (ps : List Packet). Knows setup.nodes ps of chain) (sym same) due.known) due.ends
+        due.new (subst (λ (ps : List Packet). Knows setup.nodes ps of chain) (sym same) due.known)
     reports_none a same other due = due
 
     joined : (prepares asks : List Act) → prepares ++ (asks ++ act ∷ []) ≡ [] ++ [] ++ [] ++ prepares ++ [] ++ asks ++ [] ++ [] ++ act ∷ []

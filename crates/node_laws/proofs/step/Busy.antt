@@ -18,7 +18,7 @@ use Rattle.mc_model.specs.node.Knowledge.{Knows}
 use Rattle.std.proofs.lemmas.Bool.{true≢false}
 use Rattle.mc_model.specs.node.Outputs.{Receipt, Reply, packets_in, receipts_in, replies_in}
 use Rattle.mc_model.specs.node.Phases.{DueToAsk, DueToPrepare, DueToPropose, DueToReply, DueToReport, IsDueReport}
-use Rattle.mc_model.specs.node.Replies.{Answer}
+use Rattle.mc_model.specs.node.Replies.{Answer, IsToldBy}
 use Rattle.mc_model.specs.node.Setup.{Setup}
 use Rattle.mc_model.specs.node.Step.{IsExact}
 use Rattle.node_model.specs.Answers.{answer_to}
@@ -254,6 +254,15 @@ module _ (setup : Setup) (k : Kept) (s : Node) (stands : Stands setup k s) (work
     received_4 : s4.actor.received ≡ s1.actor.received
     received_4 = starts.received
 
+    told_still : (chain : List Decree) → IsToldBy setup.node s1.actor chain → IsToldBy setup.node s4.actor chain
+    told_still chain told = record {
+      told = told.told;
+      older = told.older;
+      chain_is = told.chain_is;
+      kind = told.kind;
+      author = told.author ∙ (λ i. record { node = setup.node; incarnation = sym starts.incarnation i });
+    }
+
     reports_run : (it : Option (List Decree)) → IsReport setup.nodes setup.node s.actor s1.actor id it →
         IsRunAlone setup.nodes setup.node s4 (report_acts id it)
     reports_run None none = tt
@@ -263,10 +272,9 @@ module _ (setup : Setup) (k : Kept) (s : Node) (stands : Stands setup k s) (work
         most = works.most;
         up = works_3.up;
         needs = record {
-          final = is.0.final;
           named = is.0.named;
           known = subst (λ (ps : List Packet). Knows setup.nodes ps id chain) (sym received_4) is.0.known;
-          ends = is.0.ends;
+          told = told_still chain is.0.told;
         };
       },
       tt,

@@ -22,6 +22,7 @@ use Rattle.mc_model.specs.node.Phases.{DueToAsk, DueToPrepare, DueToPropose, Due
 use Rattle.mc_model.specs.node.Rounds.{IsPromised}
 use Rattle.mc_model.specs.node.Setup.{Setup}
 use Rattle.mc_model.specs.node.Step.{IsExact}
+use Rattle.mc_parts.proofs.Tellings.{unannounced}
 use Rattle.node_model.specs.Kept.{Kept, message_at, saved}
 use Rattle.node_model.specs.Outputs.{leaves}
 use Rattle.node_model.specs.Stepped.{stepped, stepped_down, stepped_up, stopped}
@@ -160,7 +161,8 @@ module _ (setup : Setup) (s t : Node) (before : List Act) (came : CameTo setup s
   causes_none id place chain (inl take) = take
   causes_none id place chain (inr (inl close)) = close
   causes_none id place chain (inr (inr (inl follows))) = follows
-  causes_none id place chain (inr (inr (inr deletes))) = deletes_none id place chain deletes
+  causes_none id place chain (inr (inr (inr (inl deletes)))) = deletes_none id place chain deletes
+  causes_none id place chain (inr (inr (inr (inr tells)))) = unannounced setup.nodes setup.node s.actor b id place chain (came.knew id) tells
 
   prepares_none : (records : Records) (act : Act) → DueToPrepare setup.nodes setup.node s.actor b records (Crash packet after) act → ⊥
   prepares_none records (Prepares slot ballot chain) due = causes_none slot.id slot.place chain due.0
@@ -176,7 +178,7 @@ module _ (setup : Setup) (s t : Node) (before : List Act) (came : CameTo setup s
   replies_none act due = due
 
   reports_none : (act : Act) → DueToReport setup.nodes setup.node s.actor b act → ⊥
-  reports_none (Reports id chain) due = due.new chain due.final (came.knew id chain due.known) due.ends
+  reports_none (Reports id chain) due = due.new (came.knew id chain due.known)
   reports_none act due = due
 
   abbrev core : List Act

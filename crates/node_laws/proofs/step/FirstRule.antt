@@ -12,7 +12,7 @@ use Rattle.mc_model.specs.synod.Lists.{In}
 use Rattle.mc_model.specs.synod.Packet.{Slot}
 use Rattle.mc_model.specs.synod.Acceptor.{Records}
 use Rattle.mc_model.specs.node.Actor.{Actor, name_of}
-use Rattle.mc_model.specs.node.FirstRule.{Close, Delete, Expire, FitsRule, Follow, GiveUp, IsFirstRule, Lose, Rule, Take, Try, Undeliver, order_of}
+use Rattle.mc_model.specs.node.FirstRule.{Announce, Close, Delete, Expire, FitsRule, Follow, GiveUp, IsFirstRule, Lose, Rule, Take, Try, Undeliver, order_of}
 use Rattle.mc_model.specs.node.Knowledge.{IsKnown, Knows}
 use Rattle.mc_model.specs.node.Rules.{GoesFurther, IsAttemptBy, next_decree}
 use Rattle.mc_model.specs.node.Setup.{Setup}
@@ -26,7 +26,7 @@ use Rattle.mc_model.specs.node.Alone.{Node}
 use Rattle.node_laws.specs.Stands.{Agrees, HasAttempts, IsHeld}
 use Rattle.node_laws.proofs.invariant.Decided.{Decided}
 use Rattle.node_laws.proofs.step.FollowRule.{follow_decided}
-use Rattle.node_laws.proofs.step.KnownRules.{attempt_decides, close_decided, delete_decided, expire_decided, give_up_decided, lose_decided, try_decided}
+use Rattle.node_laws.proofs.step.KnownRules.{announce_decided, attempt_decides, close_decided, delete_decided, expire_decided, give_up_decided, lose_decided, try_decided}
 use Rattle.node_laws.proofs.step.KnownRules.{undeliver_decided}
 use Rattle.node_laws.proofs.step.RuleChains.{goes_on}
 use Rattle.node_laws.proofs.step.TakeRule.{take_decided}
@@ -64,10 +64,18 @@ never_tried (Failed error) number is next taken home attempts old author before 
 never_tried (Fate final error) number is next taken home attempts old author before moment may = may
 never_tried Told number is next taken home attempts old author before moment may = may
 
+never_told : (kind : Kind) (number : ℕ) → kind ≡ Attempt number → (taken : Submission) (home attempts : ℕ) (old author : Author) (before moment : ℕ) →
+    MayFollow taken home attempts old before kind author moment Told → ⊥
+never_told (Taken of) number is taken home attempts old author before moment may = may
+never_told (Attempt other) number is taken home attempts old author before moment may = may
+never_told (Failed error) number is taken home attempts old author before moment may = may
+never_told (Fate final error) number is taken home attempts old author before moment may = absurd (cc)
+never_told Told number is taken home attempts old author before moment may = may
+
 -- ---- rules by their order
 
 abbrev rule_at : ℕ → Rule
-rule_at order = get_or (Take ∷ Take ∷ Follow ∷ Close ∷ Lose ∷ GiveUp ∷ Delete ∷ Expire ∷ Undeliver ∷ Try ∷ []) order Try
+rule_at order = get_or (Take ∷ Take ∷ Follow ∷ Close ∷ Lose ∷ GiveUp ∷ Delete ∷ Expire ∷ Undeliver ∷ Try ∷ Announce ∷ []) order Announce
 
 at_order : (rule : Rule) → rule_at (order_of rule) ≡ rule
 at_order Take = refl
@@ -79,6 +87,7 @@ at_order Delete = refl
 at_order Expire = refl
 at_order Undeliver = refl
 at_order Try = refl
+at_order Announce = refl
 
 pub same_rule : (one other : Rule) → order_of one ≡ order_of other → one ≡ other
 same_rule one other same = sym (at_order one) ∙ ap rule_at same ∙ at_order other
@@ -189,6 +198,15 @@ module _ (setup : Setup) (a : Actor) (records : Records) (k : Kept) (up : List �
               fits.due.further.newest.moment
               (next_decree setup.node a fits.due.further.newest (Attempt fits.number)).moment
               fits.due.may.1
+          none_waits Announce place chain late fits =
+              never_told fits.further.newest.kind own.0.0 (kind_at place chain _ fits.further) fits.further.taken
+              (home_in (fits.further.newest ∷ fits.further.older))
+              (attempts_in (fits.further.newest ∷ fits.further.older))
+              fits.further.newest.author
+              (next_decree setup.node a fits.further.newest Told).author
+              fits.further.newest.moment
+              (next_decree setup.node a fits.further.newest Told).moment
+              fits.may.1
 
       idle_found : (IsAttemptBy setup.node newest → ⊥) → FoundFrom 3 (idle_rule setup k id taken (up taken.target) newest older)
       idle_found other =
@@ -198,9 +216,10 @@ module _ (setup : Setup) (a : Actor) (records : Records) (k : Kept) (up : List �
           (rule_then Delete _ _ deletes
           (rule_then Expire _ _ (expire_decided setup a k id agrees.incarnation agrees.clock newest older taken known message)
           (rule_then Undeliver _ _ (undeliver_decided setup a k id agrees.incarnation agrees.clock newest older taken known message)
-          (last_rule Try _ (try_decided setup a k id agrees.incarnation agrees.clock newest older taken known message up) none_later))))))
+          (rule_then Try _ _ (try_decided setup a k id agrees.incarnation agrees.clock newest older taken known message up)
+          (last_rule Announce _ (announce_decided setup a k id agrees.incarnation agrees.clock newest older taken known message) none_later)))))))
         where
-          none_later : FoundFrom 10 None
+          none_later : FoundFrom 11 None
           none_later Take place chain late fits = absurd (omega arith)
           none_later Follow place chain late fits = absurd (omega arith)
           none_later Close place chain late fits = absurd (omega arith)
@@ -210,6 +229,7 @@ module _ (setup : Setup) (a : Actor) (records : Records) (k : Kept) (up : List �
           none_later Expire place chain late fits = absurd (omega arith)
           none_later Undeliver place chain late fits = absurd (omega arith)
           none_later Try place chain late fits = absurd (omega arith)
+          none_later Announce place chain late fits = absurd (omega arith)
 
           deletes : Decided (delete_for setup k id k.held (Some (newest ∷ older))) (Fits Delete)
           deletes = subst (λ (t : Option Submission). Decided (delete_of setup k id k.held newest older t) (Fits Delete)) (sym message)
@@ -264,6 +284,7 @@ module _ (setup : Setup) (a : Actor) (records : Records) (k : Kept) (up : List �
   least Expire = omega arith
   least Undeliver = omega arith
   least Try = omega arith
+  least Announce = omega arith
 
   pub is_first : (fit : Fitting) → first_rule setup k up id ≡ Some fit →
       IsFirstRule setup.nodes setup.node a records up id fit.start.place fit.start.chain fit.rule

@@ -13,6 +13,7 @@ use Rattle.mc_model.specs.node.Grant.{MayGrant}
 use Rattle.mc_model.specs.node.Input.{Grant}
 use Rattle.mc_model.specs.node.Phases.{DueToAsk, DueToPrepare}
 use Rattle.mc_model.specs.node.Setup.{Setup}
+use Rattle.mc_parts.proofs.Tellings.{unannounced}
 use Rattle.node_model.specs.Attempts.{on_grant}
 use Rattle.node_model.specs.Kept.{Kept, message_at, with_message}
 use Rattle.node_model.specs.Message.{Message}
@@ -176,7 +177,8 @@ module _ (setup : Setup) (k : Kept) (s : Node) (stands : Stands setup k s) (slot
     due_none id place chain (inl take) = take
     due_none id place chain (inr (inl close)) = close
     due_none id place chain (inr (inr (inl follows))) = follows
-    due_none id place chain (inr (inr (inr deletes))) = deletes_none id place chain deletes
+    due_none id place chain (inr (inr (inr (inl deletes)))) = deletes_none id place chain deletes
+    due_none id place chain (inr (inr (inr (inr tells)))) = unannounced setup.nodes setup.node s.actor granted.actor id place chain (λ known knows. knows) tells
 
     starts : StartsAs setup k1 granted slot.id (Due slot.id) (record { kept = k1; packets = [] })
     starts =

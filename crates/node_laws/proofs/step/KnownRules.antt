@@ -8,8 +8,9 @@ use Rattle.std.specs.Option.{is_none}
 use Rattle.std.proofs.lemmas.Bool.{true≢false}
 use Rattle.std.proofs.lemmas.Bool.Decides.{Decides-and, Decides-eqb, Decides-ltb}
 use Rattle.mc_model.specs.message.Submission.{Submission}
-use Rattle.mc_model.specs.message.Decree.{Attempt, Author, Decree, Deleted, Expired, Failed, Fate, Told, Kind, Taken, Undeliverable}
+use Rattle.mc_model.specs.message.Decree.{Attempt, Author, Decree, Deleted, Expired, Failed, Fate, Told, Kind, Taken, Undeliverable, Final}
 use Rattle.mc_model.specs.message.Neighbours.{MayFollow, most_attempts, retry_delay}
+use Rattle.mc_model.specs.message.Receipts.{AsksReceipt}
 use Rattle.mc_model.specs.message.Chain.{MayExtend, attempts_in, home_in, taken_in}
 use Rattle.mc_model.specs.synod.Lists.{In}
 use Rattle.mc_model.specs.synod.Packet.{Slot, slot_at, slot_of}
@@ -22,9 +23,11 @@ use Rattle.mc_model.specs.node.Setup.{Setup}
 use Rattle.mc_parts.proofs.Known.{knows_one}
 use Rattle.node_model.specs.Kept.{Kept}
 use Rattle.node_model.specs.Message.{Message}
-use Rattle.node_model.specs.Starts.{cancels, delete_of, is_idle, moment_behind, start_behind}
+use Rattle.node_model.specs.Starts.{announced, cancels, delete_of, is_idle, moment_behind, start_behind}
 use Rattle.node_model.specs.Rules.{closing, expiring, giving_up, if_so, is_attempt_by, losing, tried, undelivered}
+use Rattle.node_model.specs.Answers.{is_asked}
 use Rattle.node_model.proofs.Decisions.{nat_le_decides}
+use Rattle.node_model.proofs.Receipts.{asked_decides}
 use Rattle.node_laws.specs.Stands.{HasAttempts}
 use Rattle.node_laws.proofs.invariant.Cancelling.{cancelled_decides}
 use Rattle.node_laws.proofs.invariant.Decided.{Decided}
@@ -307,6 +310,40 @@ module _ (setup : Setup) (a : Actor) (k : Kept) (id : ℕ) (incarnation : k.inca
       by_kind (Failed error) is = by_test error is (attempts_in (newest ∷ older) == most_attempts) refl
       by_kind (Fate final error) is = never (Fate final error) is (λ other same. absurd (cc))
       by_kind Told is = never Told is (λ other same. absurd (cc))
+
+  -- the receipt on a fate is to be told
+  pub announce_decided : Decided (announced setup k taken newest older newest.kind) (λ place chain. IsDue setup.nodes setup.node a id place chain Told)
+  announce_decided = by_kind newest.kind refl
+    where
+      home : ℕ
+      home = home_in (newest ∷ older)
+
+      MayTell : Kind → Type 0
+      MayTell kind = MayFollow taken home (attempts_in (newest ∷ older)) newest.author newest.moment kind (next_decree setup.node a newest Told).author
+          (max a.clock newest.moment) Told
+
+      telling : (place : ℕ) (chain : List Decree) (kind : Kind) → newest.kind ≡ kind → IsDue setup.nodes setup.node a id place chain Told → MayTell kind
+      telling place chain kind is fits = subst MayTell is (may_here place chain Told fits).1
+
+      holds : (final : Final) → Decides ((setup.node == home) && is_asked final taken) ((setup.node ≡ home) × AsksReceipt final taken)
+      holds final = Decides-and _ _ (Decides-eqb setup.node home) (asked_decides final taken)
+
+      by_test : (final : Final) (error : ℕ) → newest.kind ≡ Fate final error → (test : Bool) → ((setup.node == home) && is_asked final taken) ≡ test →
+          Decided (if test then Some (start_behind setup k newest older Told) else None) (λ place chain. IsDue setup.nodes setup.node a id place chain Told)
+      by_test final error is true asks =
+          let both = (holds final).0 asks in
+          due Told (later, subst MayTell (sym is) (record { node = both.0; asked = both.1 }))
+      by_test final error is false not_asked = λ place chain fits.
+          let it = telling place chain (Fate final error) is fits in
+          true≢false (sym ((holds final).1 (it.node, it.asked)) ∙ not_asked)
+
+      by_kind : (kind : Kind) → newest.kind ≡ kind →
+          Decided (announced setup k taken newest older kind) (λ place chain. IsDue setup.nodes setup.node a id place chain Told)
+      by_kind (Taken of) is = λ place chain fits. telling place chain (Taken of) is fits
+      by_kind (Attempt number) is = λ place chain fits. telling place chain (Attempt number) is fits
+      by_kind (Failed error) is = λ place chain fits. telling place chain (Failed error) is fits
+      by_kind (Fate final error) is = by_test final error is ((setup.node == home) && is_asked final taken) refl
+      by_kind Told is = λ place chain fits. telling place chain Told is fits
 
   -- the next attempt may follow this kind
   abbrev MayTry : Kind → ℕ → Type 0

@@ -164,7 +164,9 @@ module _ (setup : Setup) (before : Actor) (incarnation serial lost : ℕ) where
   causes_none id place chain (inl take) = take
   causes_none id place chain (inr (inl close)) = close
   causes_none id place chain (inr (inr (inl follows))) = follows
-  causes_none id place chain (inr (inr (inr deletes))) = deletes.deletes.cancelled.waits
+  causes_none id place chain (inr (inr (inr (inl deletes)))) = deletes.deletes.cancelled.waits
+  causes_none id place chain (inr (inr (inr (inr tells)))) = none_learned setup.nodes (slot_of id (tells.due.further.newest ∷ tells.due.further.older))
+      (vote_at tells.due.further.known.ballot (tells.due.further.newest ∷ tells.due.further.older)) tells.due.further.known.learned
 
   prepares_none : (records : Records) (act : Act) → DueToPrepare setup.nodes setup.node before now records (Restart lost) act → ⊥
   prepares_none records (Prepares slot ballot chain) due = causes_none slot.id slot.place chain due.0

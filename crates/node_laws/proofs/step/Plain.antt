@@ -14,6 +14,7 @@ use Rattle.mc_model.specs.node.Knowledge.{IsKnown, Knows}
 use Rattle.mc_model.specs.node.Phases.{DueToAsk, DueToPrepare, DueToPropose, DueToReply, DueToReport, DueToSettle}
 use Rattle.mc_model.specs.node.Setup.{Setup}
 use Rattle.mc_model.specs.node.Step.{IsExact}
+use Rattle.mc_parts.proofs.Tellings.{unannounced}
 use Rattle.node_model.specs.Kept.{Held, Kept, message_at}
 use Rattle.node_model.specs.Answers.{answer_to}
 use Rattle.node_model.specs.Requests.{id_of, settles}
@@ -81,7 +82,8 @@ module _ (setup : Setup) (k : Kept) (s : Node) (stands : Stands setup k s) (pack
   causes_none id place chain (inl take) = take
   causes_none id place chain (inr (inl close)) = close
   causes_none id place chain (inr (inr (inl it))) = follows id place chain it
-  causes_none id place chain (inr (inr (inr deletes))) = deletes_none id place chain deletes
+  causes_none id place chain (inr (inr (inr (inl deletes)))) = deletes_none id place chain deletes
+  causes_none id place chain (inr (inr (inr (inr tells)))) = unannounced setup.nodes setup.node s.actor t.actor id place chain (knew id) tells
 
   prepares_none : (act : Act) → DueToPrepare setup.nodes setup.node s.actor t.actor s.records (Delivery packet) act → ⊥
   prepares_none (Prepares slot ballot chain) due = causes_none slot.id slot.place chain due.0
@@ -92,7 +94,7 @@ module _ (setup : Setup) (k : Kept) (s : Node) (stands : Stands setup k s) (pack
   replies_none act due = due
 
   reports_none : (act : Act) → DueToReport setup.nodes setup.node s.actor t.actor act → ⊥
-  reports_none (Reports id chain) due = due.new chain due.final (knew id chain due.known) due.ends
+  reports_none (Reports id chain) due = due.new (knew id chain due.known)
   reports_none act due = due
 
   -- it is received, and proposes what is due

@@ -1,44 +1,58 @@
--- The receipt that goes out if a final state becomes known.
-use Rattle.std.proofs.Common.{◌≡◌, ℕ, Bool, true, false, List, [], ◌∷◌, Option, Some, None, refl, sym, ap, subst, subst₂, ◌∙◌, inl, inr}
-use Rattle.std.specs.Prelude.{◌%◌, ◌==◌, ◌&&◌, ◌||◌, if◌then◌else◌, not}
-use Rattle.std.specs.Bool.{Decides}
-use Rattle.std.specs.Option.{is_none}
-use Rattle.std.proofs.lemmas.Bool.{and_from, and_parts, eqb-false, eqb-true, not-true, true≢false}
-use Rattle.std.proofs.lemmas.Bool.Decides.{Decides-eqb, Decides-like, Decides-or}
+-- The receipt that goes out if a Told of the node becomes known.
+use Rattle.std.proofs.Common.{◌≡◌, ℕ, Bool, true, false, List, [], ◌∷◌, Option, Some, None, refl, sym, ap, subst, subst₂, ◌∙◌}
+use Rattle.std.specs.Prelude.{◌==◌, ◌&&◌, if◌then◌else◌, not}
+use Rattle.std.proofs.lemmas.Bool.{and_from, and_parts, eqb-false, eqb-true, true≢false}
+use Rattle.std.proofs.lemmas.Bool.Decides.{Decides-eqb}
 use Rattle.mc_model.specs.message.Ids.{node_of}
-use Rattle.mc_model.specs.message.Submission.{Submission}
-use Rattle.mc_model.specs.message.Decree.{Decree, Deleted, Delivered, Expired, Final, Rejected, Undeliverable}
-use Rattle.mc_model.specs.message.Receipts.{AsksReceipt}
-use Rattle.mc_model.specs.message.Chain.{final_in, taken_in}
+use Rattle.mc_model.specs.message.Decree.{Attempt, Author, Decree, Failed, Fate, Kind, Taken, Told}
 use Rattle.mc_model.specs.node.Act.{Act, Reports}
 use Rattle.mc_model.specs.node.Actor.{Actor}
-use Rattle.mc_model.specs.node.Knowledge.{IsKnown, Knows}
+use Rattle.mc_model.specs.node.Knowledge.{Knows}
 use Rattle.mc_model.specs.node.Outputs.{Receipt}
 use Rattle.mc_model.specs.node.Phases.{DueToReport, IsDueReport}
+use Rattle.mc_model.specs.node.Replies.{IsToldBy}
 use Rattle.mc_parts.proofs.Known.{knows_one}
-use Rattle.node_model.specs.Answers.{had_fate, is_asked, receipt_by, receipts_of}
+use Rattle.node_model.specs.Answers.{ends_told, is_known_so, is_told_by, receipts_of}
 use Rattle.node_laws.proofs.step.Busy.{IsReport, report_out}
 
-other_asks : (final : Final) (taken : Submission) → (final ≡ Delivered → ⊥) →
-    Decides ((taken.registered_delivery % 4 == 1) || (taken.registered_delivery % 4 == 2)) (AsksReceipt final taken)
-other_asks final taken other = Decides-like ((taken.registered_delivery % 4 == 1) || (taken.registered_delivery % 4 == 2))
-    (λ p. elim p [ inl always ↦ inl always | inr failure ↦ inr (failure, other) ])
-    (λ asks. elim asks [ inl always ↦ inl always | inr failure ↦ inr failure.0 ])
-    (Decides-or _ _ (Decides-eqb (taken.registered_delivery % 4) 1) (Decides-eqb (taken.registered_delivery % 4) 2))
+-- ---- a chain ends in a Told of the node
 
-asked_decides : (final : Final) (taken : Submission) → Decides (is_asked final taken) (AsksReceipt final taken)
-asked_decides Delivered taken = (
-  λ t. inl ((Decides-eqb (taken.registered_delivery % 4) 1).0 t),
-  λ asks. elim asks [ inl always ↦ (Decides-eqb (taken.registered_delivery % 4) 1).1 always | inr failure ↦ absurd (failure.1 refl) ],
-)
-asked_decides Expired taken = other_asks Expired taken (λ same. absurd (cc))
-asked_decides Deleted taken = other_asks Deleted taken (λ same. absurd (cc))
-asked_decides Undeliverable taken = other_asks Undeliverable taken (λ same. absurd (cc))
-asked_decides Rejected taken = other_asks Rejected taken (λ same. absurd (cc))
+kind_told : (node incarnation : ℕ) (author : Author) (kind : Kind) → is_told_by node incarnation author kind ≡ true →
+    (kind ≡ Told) × ((author.node ≡ node) × (author.incarnation ≡ incarnation))
+kind_told node incarnation author (Taken message) is = absurd (true≢false (sym is))
+kind_told node incarnation author (Attempt number) is = absurd (true≢false (sym is))
+kind_told node incarnation author (Failed error) is = absurd (true≢false (sym is))
+kind_told node incarnation author (Fate final error) is = absurd (true≢false (sym is))
+kind_told node incarnation author Told is =
+    let both = and_parts (author.node == node) (author.incarnation == incarnation) is in
+    (refl, (eqb-true author.node node both.0, eqb-true author.incarnation incarnation both.1))
 
--- of this message this chain becomes known, and of others what is known stays
-module _ (nodes node : ℕ) (before a : Actor) (id : ℕ) (known : Option (List Decree)) (chain : List Decree) (was : IsKnown nodes before.received id known)
-    (knows : Knows nodes a.received id chain)
+module _ (node incarnation : ℕ) (a : Actor) (same : incarnation ≡ a.incarnation) where
+  told_so : (chain : List Decree) → ends_told node incarnation chain ≡ true → IsToldBy node a chain
+  told_so [] is = absurd (true≢false (sym is))
+  told_so (newest ∷ older) is =
+      let it = kind_told node incarnation newest.author newest.kind is in
+      record {
+        told = newest;
+        older = older;
+        chain_is = refl;
+        kind = it.0;
+        author = λ i. record { node = it.1.0 i; incarnation = (it.1.1 ∙ same) i };
+      }
+
+  told_back : (chain : List Decree) → IsToldBy node a chain → ends_told node incarnation chain ≡ true
+  told_back chain told =
+      let nodes : told.told.author.node ≡ node = ap (λ (x : Author). x.node) told.author in
+      let incarnations : told.told.author.incarnation ≡ incarnation = ap (λ (x : Author). x.incarnation) told.author ∙ sym same in
+      ap (ends_told node incarnation) told.chain_is
+      ∙ ap (is_told_by node incarnation told.told.author) told.kind
+      ∙ and_from (told.told.author.node == node) (told.told.author.incarnation == incarnation) ((Decides-eqb told.told.author.node node).1 nodes)
+      ((Decides-eqb told.told.author.incarnation incarnation).1 incarnations)
+
+-- ---- of this message this chain becomes known, and of others what is known stays
+
+module _ (nodes node incarnation : ℕ) (before a : Actor) (same : incarnation ≡ a.incarnation) (id : ℕ) (known : Option (List Decree))
+    (chain : List Decree) (fresh : is_known_so known chain ≡ false) (new : Knows nodes before.received id chain → ⊥) (knows : Knows nodes a.received id chain)
     (others : (other : ℕ) → (other ≡ id → ⊥) → (of : List Decree) → Knows nodes a.received other of → Knows nodes before.received other of) where
   -- the receipt, and that it is the one that is due
   pub record Reported (receipts : List Receipt) : Type 0 where
@@ -49,86 +63,44 @@ module _ (nodes node : ℕ) (before a : Actor) (id : ℕ) (known : Option (List 
   only_here : (other : ℕ) (of : List Decree) → IsDueReport nodes node before a other of → (other ≡ id) × (of ≡ chain)
   only_here other of due = by_id (other == id) refl
     where
-      by_id : (same : Bool) → (other == id) ≡ same → (other ≡ id) × (of ≡ chain)
-      by_id true same =
-          let is = eqb-true other id same in
+      by_id : (test : Bool) → (other == id) ≡ test → (other ≡ id) × (of ≡ chain)
+      by_id true equal =
+          let is = eqb-true other id equal in
           (is, knows_one nodes a.received id of chain (subst (λ (i : ℕ). Knows nodes a.received i of) is due.known) knows)
-      by_id false differs = absurd (due.new of due.final (others other (eqb-false other id differs) of due.known) due.ends)
+      by_id false differs = absurd (due.new (others other (eqb-false other id differs) of due.known))
 
   -- if it is not due here, then nowhere
-  none_here : ((due : IsDueReport nodes node before a id chain) → ⊥) → (act : Act) → DueToReport nodes node before a act → ⊥
+  none_here : (IsDueReport nodes node before a id chain → ⊥) → (act : Act) → DueToReport nodes node before a act → ⊥
   none_here none (Reports other of) due =
-      let same = only_here other of due in
-      none (subst₂ (λ (i : ℕ) (c : List Decree). IsDueReport nodes node before a i c) same.0 same.1 due)
+      let here = only_here other of due in
+      none (subst₂ (λ (i : ℕ) (c : List Decree). IsDueReport nodes node before a i c) here.0 here.1 due)
   none_here none act due = due
 
-  nothing : ((due : IsDueReport nodes node before a id chain) → ⊥) → Reported []
-  nothing none = record { report = None; out = refl; is = none_here none }
-
-  fate_decides : (it : Option (List Decree)) → IsKnown nodes before.received id it → had_fate it ≡ false → (older : List Decree) (other : Final) →
-      Knows nodes before.received id older → final_in older ≡ Some other → ⊥
-  fate_decides None none fate older other knew ends = none _ _ knew.learned
-  fate_decides (Some old) is fate older other knew ends =
-      let same : older ≡ old = knows_one nodes before.received id older old knew is in
-      let has : final_in old ≡ Some other = ap final_in (sym same) ∙ ends in
-      true≢false (sym (ap (λ (f : Option Final). not (is_none f)) has) ∙ fate)
-
-  had_one : (it : Option (List Decree)) → IsKnown nodes before.received id it → had_fate it ≡ true → IsDueReport nodes node before a id chain → ⊥
-  had_one None none fate due = true≢false (sym fate)
-  had_one (Some old) is fate due = by_final (final_in old) refl (fate)
+  pub reported : Reported (receipts_of node incarnation id known chain)
+  reported = by_test ((node_of id == node) && (ends_told node incarnation chain && not (is_known_so known chain))) refl
     where
-      by_final : (f : Option Final) → final_in old ≡ f → not (is_none f) ≡ true → ⊥
-      by_final None ends has = true≢false (sym has)
-      by_final (Some other) ends has = due.new old other is ends
+      new_test : not (is_known_so known chain) ≡ true
+      new_test = ap not fresh
 
-  pub reported : Reported (receipts_of node id known chain)
-  reported = by_test ((node_of id == node) && not (had_fate known)) refl
-    where
-      by_asked : (final : Final) (taken : Submission) → final_in chain ≡ Some final → taken_in chain ≡ Some taken → node_of id ≡ node → had_fate known ≡ false →
-          (asked : Bool) → is_asked final taken ≡ asked → Reported (if asked then record { id = id; chain = chain } ∷ [] else [])
-      by_asked final taken ends message named fate true asked = record {
-        report = Some chain;
-        out = refl;
-        is = (
-          record {
-            final = final;
-            taken = taken;
-            named = named;
-            known = knows;
-            ends = ends;
-            message = message;
-            asked = (asked_decides final taken).0 asked;
-            new = fate_decides known was fate;
-          },
-          only_here,
-        );
-      }
-      by_asked final taken ends message named fate false unasked = nothing (λ due.
-          let finals : Some due.final ≡ Some final = sym due.ends ∙ ends in
-          let submissions : Some due.taken ≡ Some taken = sym due.message ∙ message in
-          let one : due.final ≡ final = cc in
-          let other : due.taken ≡ taken = cc in
-          true≢false (sym ((asked_decides final taken).1 (subst₂ AsksReceipt one other due.asked)) ∙ unasked))
-
-      by_taken : (final : Final) → final_in chain ≡ Some final → node_of id ≡ node → had_fate known ≡ false → (taken : Option Submission) →
-          taken_in chain ≡ taken →
-          Reported (receipt_by id chain (Some final) taken)
-      by_taken final ends named fate None none = nothing (λ due. let both : Some due.taken ≡ None = sym due.message ∙ none in absurd (cc))
-      by_taken final ends named fate (Some taken) message = by_asked final taken ends message named fate (is_asked final taken) refl
-
-      by_final : node_of id ≡ node → had_fate known ≡ false → (final : Option Final) → final_in chain ≡ final →
-          Reported (receipt_by id chain final (taken_in chain))
-      by_final named fate None none = nothing (λ due. let both : Some due.final ≡ None = sym due.ends ∙ none in absurd (cc))
-      by_final named fate (Some final) ends = by_taken final ends named fate (taken_in chain) refl
-
-      not_first : (fate : Bool) → had_fate known ≡ fate → (node_of id == node) && not fate ≡ false → IsDueReport nodes node before a id chain → ⊥
-      not_first true fate is due = had_one known was fate due
-      not_first false fate is due =
-          true≢false (sym (and_from (node_of id == node) true ((Decides-eqb (node_of id) node).1 due.named) refl) ∙ is)
-
-      by_test : (test : Bool) → (node_of id == node) && not (had_fate known) ≡ test →
-          Reported (if test then receipt_by id chain (final_in chain) (taken_in chain) else [])
+      by_test : (test : Bool) → (node_of id == node) && (ends_told node incarnation chain && not (is_known_so known chain)) ≡ test →
+          Reported (if test then record { id = id; chain = chain } ∷ [] else [])
       by_test true is =
-          let parts = and_parts (node_of id == node) (not (had_fate known)) is in
-          by_final (eqb-true (node_of id) node parts.0) (not-true (had_fate known) parts.1) (final_in chain) refl
-      by_test false is = nothing (not_first (had_fate known) refl is)
+          let parts = and_parts (node_of id == node) (ends_told node incarnation chain && not (is_known_so known chain)) is in
+          let told = and_parts (ends_told node incarnation chain) (not (is_known_so known chain)) parts.1 in
+          record {
+            report = Some chain;
+            out = refl;
+            is = (
+              record { named = eqb-true (node_of id) node parts.0; known = knows; told = told_so node incarnation a same chain told.0; new = new },
+              only_here,
+            );
+          }
+      by_test false is = record {
+        report = None;
+        out = refl;
+        is = none_here (λ due. true≢false
+            (sym (and_from (node_of id == node) (ends_told node incarnation chain && not (is_known_so known chain))
+            ((Decides-eqb (node_of id) node).1 due.named)
+            (and_from (ends_told node incarnation chain) (not (is_known_so known chain)) (told_back node incarnation a same chain due.told) new_test))
+            ∙ is));
+      }

@@ -19,6 +19,7 @@ use Rattle.mc_model.specs.node.Phases.{DueToAsk, DueToPrepare}
 use Rattle.mc_model.specs.node.Rules.{FitsClose}
 use Rattle.mc_model.specs.node.Setup.{Setup}
 use Rattle.mc_parts.proofs.Known.{knows_one}
+use Rattle.mc_parts.proofs.Tellings.{unannounced}
 use Rattle.node_model.specs.Answers.{answer_to}
 use Rattle.node_model.specs.Attempts.{closed_by, concluded, on_response}
 use Rattle.node_model.specs.Kept.{Kept, message_at}
@@ -69,7 +70,9 @@ module _ (setup : Setup) (k : Kept) (s : Node) (stands : Stands setup k s) (work
   closes_only id place chain (inl take) = absurd take
   closes_only id place chain (inr (inl close)) = close
   closes_only id place chain (inr (inr (inl follows))) = absurd follows
-  closes_only id place chain (inr (inr (inr deletes))) = absurd (deletes_none id place chain deletes)
+  closes_only id place chain (inr (inr (inr (inl deletes)))) = absurd (deletes_none id place chain deletes)
+  closes_only id place chain (inr (inr (inr (inr tells)))) = absurd (unannounced setup.nodes setup.node s.actor s1.actor id place chain
+      (λ known knows. knows) tells)
 
   -- ---- the attempt is the newest decree that is known
 

@@ -9,7 +9,7 @@ use Rattle.mc_model.specs.synod.OneSlot.{vote_at}
 use Rattle.mc_model.specs.synod.Packet.{Packet, Slot, Voted, slot_at, slot_of}
 use Rattle.mc_model.specs.synod.Acceptor.{Records}
 use Rattle.mc_model.specs.node.Actor.{Actor}
-use Rattle.mc_model.specs.node.FirstRule.{Close, Delete, Expire, FitsRule, Follow, GiveUp, Lose, Rule, Take, Try, Undeliver, order_of}
+use Rattle.mc_model.specs.node.FirstRule.{Announce, Close, Delete, Expire, FitsRule, Follow, GiveUp, Lose, Rule, Take, Try, Undeliver, order_of}
 use Rattle.mc_model.specs.node.Knowledge.{IsLearned, Knows}
 use Rattle.mc_model.specs.node.Outcome.{Concluded, Outcome, Unanswered, decree_of, no_session_error, older_incarnation_error}
 use Rattle.mc_model.specs.node.Proposal.{Allows, HasError, IsCancelled, IsClosed, IsNext}
@@ -48,6 +48,7 @@ goes_on nodes node a records up id Delete place chain late fits = record { kind 
 goes_on nodes node a records up id Expire place chain late fits = record { kind = _; further = fits.further }
 goes_on nodes node a records up id Undeliver place chain late fits = record { kind = _; further = fits.due.further }
 goes_on nodes node a records up id Try place chain late fits = record { kind = _; further = fits.due.further }
+goes_on nodes node a records up id Announce place chain late fits = record { kind = _; further = fits.further }
 
 -- ---- what may follow an attempt
 
@@ -198,6 +199,23 @@ tried_error (Failed cause) number = tt
 tried_error (Fate final cause) number = tt
 tried_error Told number = tt
 
+told_allowed :
+    (a : Actor) (slot : Slot) (taken : Submission) (attempted : Author) (kind : Kind) (message : Submission) (home attempt : ℕ) (old author : Author)
+    (before moment : ℕ) →
+    MayFollow message home attempt old before kind author moment Told → Allows a slot taken attempted kind Told
+told_allowed a slot taken attempted (Taken of) message home attempt old author before moment may = tt
+told_allowed a slot taken attempted (Attempt tried) message home attempt old author before moment may = absurd may
+told_allowed a slot taken attempted (Failed cause) message home attempt old author before moment may = tt
+told_allowed a slot taken attempted (Fate final cause) message home attempt old author before moment may = tt
+told_allowed a slot taken attempted Told message home attempt old author before moment may = tt
+
+told_error : (kind : Kind) → HasError kind Told
+told_error (Taken of) = tt
+told_error (Attempt tried) = tt
+told_error (Failed cause) = tt
+told_error (Fate final cause) = tt
+told_error Told = tt
+
 -- ---- the next chain
 
 module _ (nodes node : ℕ) (a : Actor) (coherent : IsCoherent node a) (records : Records) (up : List ℕ → Bool) (id : ℕ) where
@@ -313,6 +331,13 @@ module _ (nodes node : ℕ) (a : Actor) (coherent : IsCoherent node a) (records 
       (next_decree node a g.newest (Attempt fits.number)).moment
       fits.due.may.1)
       (tried_error g.newest.kind fits.number)
+  rule_next Announce place chain late fits =
+      let g = fits.further in
+      next_of place chain Told g fits.may.1
+      (told_allowed a (slot_of id (g.newest ∷ g.older)) g.taken g.newest.author g.newest.kind g.taken (home_in (g.newest ∷ g.older))
+      (attempts_in (g.newest ∷ g.older)) g.newest.author (next_decree node a g.newest Told).author g.newest.moment
+      (next_decree node a g.newest Told).moment fits.may.1)
+      (told_error g.newest.kind)
 
   next_permitted : (b : Actor) → b.received ≡ a.received → (chain : List Decree) → Next b chain → IsPermitted id chain
   next_permitted b same chain n =
@@ -334,6 +359,7 @@ module _ (nodes node : ℕ) (a : Actor) (coherent : IsCoherent node a) (records 
   received_still Expire place = refl
   received_still Undeliver place = refl
   received_still Try place = refl
+  received_still Announce place = refl
 
   -- ---- its place
 

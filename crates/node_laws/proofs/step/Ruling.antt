@@ -12,7 +12,7 @@ use Rattle.mc_model.specs.node.Act.{Act, Prepares}
 use Rattle.mc_model.specs.node.Actor.{Actor, Offer, Request, Submit, id_in, name_of}
 use Rattle.mc_model.specs.node.Alone.{Node, StandsAt, after_alone, reached_alone}
 use Rattle.mc_model.specs.node.Due.{key_of}
-use Rattle.mc_model.specs.node.FirstRule.{Close, Delete, Expire, FitsRule, Follow, GiveUp, IsFirstRule, Lose, Rule, Take, Try, Undeliver, order_of}
+use Rattle.mc_model.specs.node.FirstRule.{Announce, Close, Delete, Expire, FitsRule, Follow, GiveUp, IsFirstRule, Lose, Rule, Take, Try, Undeliver, order_of}
 use Rattle.mc_model.specs.node.Knowledge.{IsKnown, IsLearned}
 use Rattle.mc_model.specs.node.Outcome.{Outcome, Unanswered, no_session_error}
 use Rattle.mc_model.specs.node.Outputs.{packets_in}
@@ -100,6 +100,8 @@ module _ (setup : Setup) (s : Node) where
         one_place setup.nodes setup.node s.actor coherent s.records up id Undeliver Undeliver place at chain of (omega arith) (omega arith) one other
     rule_once Try place at chain of one other =
         one_place setup.nodes setup.node s.actor coherent s.records up id Try Try place at chain of (omega arith) (omega arith) one other
+    rule_once Announce place at chain of one other =
+        one_place setup.nodes setup.node s.actor coherent s.records up id Announce Announce place at chain of (omega arith) (omega arith) one other
 
     -- of two first rules neither stands before the other
     pub same_first : (rule other : Rule) (place at : ℕ) (chain of : List Decree) → IsFirstRule setup.nodes setup.node s.actor s.records up id place chain rule →
@@ -216,6 +218,7 @@ module _ (setup : Setup) (s : Node) where
     ground_of Expire place slots offers = ground_here slots offers
     ground_of Undeliver place slots offers = ground_here slots offers
     ground_of Try place slots offers = ground_here slots offers
+    ground_of Announce place slots offers = ground_here slots offers
 
     -- a submit_sm that waits is of a message of which nothing is known
     take_ahead : IsQuiet setup.nodes setup.node s.actor → (place : ℕ) (chain : List Decree) → FitsTake setup.node s.actor id place chain →
@@ -296,6 +299,7 @@ module _ (setup : Setup) (s : Node) where
       ready quiet Expire place chain fits = behind_ready Expire place chain (omega arith) fits
       ready quiet Undeliver place chain fits = behind_ready Undeliver place chain (omega arith) fits
       ready quiet Try place chain fits = behind_ready Try place chain (omega arith) fits
+      ready quiet Announce place chain fits = behind_ready Announce place chain (omega arith) fits
 
       pub is_start : IsQuiet setup.nodes setup.node s.actor → (fit : Fitting) →
           IsFirstRule setup.nodes setup.node s.actor s.records up id fit.start.place fit.start.chain fit.rule →
@@ -341,6 +345,7 @@ module _ (setup : Setup) (s : Node) where
       given_agrees Expire place chain fits apart = agrees
       given_agrees Undeliver place chain fits apart = agrees
       given_agrees Try place chain fits apart = agrees
+      given_agrees Announce place chain fits apart = agrees
 
 -- ---- what is kept of other messages stays
 
@@ -374,6 +379,7 @@ given_beside Delete k id place = beside_same k id
 given_beside Expire k id place = beside_same k id
 given_beside Undeliver k id place = beside_same k id
 given_beside Try k id place = beside_same k id
+given_beside Announce k id place = beside_same k id
 
 pub given_round : (rule : Rule) (k : Kept) (id place : ℕ) → (message_at k id).round ≡ None → (message_at (given_up rule k id place) id).round ≡ None
 given_round Take k id place none = none
@@ -385,6 +391,7 @@ given_round Delete k id place none = none
 given_round Expire k id place none = none
 given_round Undeliver k id place none = none
 given_round Try k id place none = none
+given_round Announce k id place none = none
 
 pub started_beside : (setup : Setup) (k : Kept) (id : ℕ) (start : Option Start) → IsBeside k (started setup k id start).kept id
 started_beside setup k id None = beside_same k id

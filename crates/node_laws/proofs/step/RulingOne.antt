@@ -9,7 +9,7 @@ use Rattle.mc_model.specs.node.Act.{Act, Prepares}
 use Rattle.mc_model.specs.node.Actor.{Offer}
 use Rattle.mc_model.specs.node.Alone.{Node, reached_alone}
 use Rattle.mc_model.specs.node.Due.{Fall, key_of}
-use Rattle.mc_model.specs.node.FirstRule.{Close, Delete, Expire, Follow, GiveUp, IsFirstRule, Lose, Rule, Take, Try, Undeliver}
+use Rattle.mc_model.specs.node.FirstRule.{Announce, Close, Delete, Expire, Follow, GiveUp, IsFirstRule, Lose, Rule, Take, Try, Undeliver}
 use Rattle.mc_model.specs.node.Outputs.{packets_in}
 use Rattle.mc_model.specs.node.Rounds.{MayPrepare, RunsNone}
 use Rattle.mc_model.specs.node.Setup.{Setup}
@@ -112,6 +112,7 @@ module _ (setup : Setup) (s : Node) (coherent : IsCoherent setup.node s.actor) (
   given_slots_are Expire place chain first slot = ((λ none. absurd none), (λ given. by_another Expire place chain first (λ same. absurd (cc)) slot given))
   given_slots_are Undeliver place chain first slot = ((λ none. absurd none), (λ given. by_another Undeliver place chain first (λ same. absurd (cc)) slot given))
   given_slots_are Try place chain first slot = ((λ none. absurd none), (λ given. by_another Try place chain first (λ same. absurd (cc)) slot given))
+  given_slots_are Announce place chain first slot = ((λ none. absurd none), (λ given. by_another Announce place chain first (λ same. absurd (cc)) slot given))
 
   given_fall : (rule : Rule) (place : ℕ) → Fall (map (λ slot. slot.id) (given_slots setup s rule id place))
   given_fall Take place = tt
@@ -123,6 +124,7 @@ module _ (setup : Setup) (s : Node) (coherent : IsCoherent setup.node s.actor) (
   given_fall Expire place = tt
   given_fall Undeliver place = tt
   given_fall Try place = tt
+  given_fall Announce place = tt
 
   module _ (k : Kept) (slots : List Slot) (offers : List Offer) (agrees : Agrees setup k (later setup s slots offers))
       (on : AgreesOn setup s.actor s.records k id)

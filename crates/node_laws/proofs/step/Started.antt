@@ -68,6 +68,7 @@ pub record StartsAs (setup : Setup) (k : Kept) (s : Node) (id : ℕ) (Due : ℕ 
   pub no_receipts : receipts_in acts ≡ []
   pub up : new.kept.up ≡ k.up
   pub received : (reached_alone setup.node s acts).actor.received ≡ s.actor.received
+  pub incarnation : (reached_alone setup.node s acts).actor.incarnation ≡ s.actor.incarnation
   pub held : new.kept.held ≡ k.held
   pub known : (other : ℕ) → (message_at new.kept other).known ≡ (message_at k other).known
   pub records : (reached_alone setup.node s acts).records ≡ s.records
@@ -143,6 +144,7 @@ module _ (setup : Setup) (k : Kept) (s : Node) (agrees : Agrees setup k s) (mine
     no_receipts = refl;
     up = refl;
     received = refl;
+    incarnation = refl;
     held = refl;
     known = λ other. refl;
     records = refl;
@@ -233,6 +235,7 @@ module _ (setup : Setup) (k : Kept) (s : Node) (agrees : Agrees setup k s) (mine
           no_receipts = refl;
           up = refl;
           received = refl;
+          incarnation = refl;
           held = refl;
           known = each_with (λ other m. m.known ≡ (message_at k other).known) k id new refl (λ other apart. refl);
           records = refl;

@@ -27,6 +27,7 @@ use Rattle.mc_model.specs.node.Rules.{FitsDelete, IsAhead, IsHighest, ToldBy}
 use Rattle.mc_model.specs.node.Setup.{Setup}
 use Rattle.mc_model.specs.node.Settling.{HasTold, IsReached}
 use Rattle.mc_parts.proofs.Known.{knows_one}
+use Rattle.mc_parts.proofs.Tellings.{unannounced}
 use Rattle.node_model.specs.Answers.{answer_to, replied}
 use Rattle.node_model.specs.Kept.{Held, Kept, message_at}
 use Rattle.node_model.specs.Outputs.{leaves, sends}
@@ -296,7 +297,9 @@ module _ (setup : Setup) (k : Kept) (s : Node) (stands : Stands setup k s) (tell
     either_of other place chain (inl take) = absurd take
     either_of other place chain (inr (inl close)) = absurd close
     either_of other place chain (inr (inr (inl follows))) = inl follows.1
-    either_of other place chain (inr (inr (inr deletes))) = inr deletes
+    either_of other place chain (inr (inr (inr (inl deletes)))) = inr deletes
+    either_of other place chain (inr (inr (inr (inr tells)))) = absurd (unannounced setup.nodes setup.node s.actor s_2.actor other place chain
+        (knew other) tells)
 
     -- only by this request
     shows_this : (other place : ℕ) (chain : List Decree) → Shows other place chain → other ≡ N
@@ -437,7 +440,7 @@ module _ (setup : Setup) (k : Kept) (s : Node) (stands : Stands setup k s) (tell
       decided_start : (start : Option Start) → Decided start (FitsDelete setup.nodes setup.node alone N) → IsStartOf setup s_2 N (Starts N) start
       decided_start None none = λ place chain starts. none place chain (starts_alone place chain starts)
       decided_start (Some start) fits =
-          deletes_start setup s_2 agrees_2.coherent N (Starts N) start (inr (inr (inr (deletes_now start.place start.chain fits))))
+          deletes_start setup s_2 agrees_2.coherent N (Starts N) start (inr (inr (inr (inl (deletes_now start.place start.chain fits)))))
           (λ place chain starts. one_place start.place place start.chain chain fits (starts_alone place chain starts)) (fits_among start.place start.chain fits)
 
       none_taken : (chain : List Decree) → known ≡ Some chain → taken_in chain ≡ None → (place : ℕ) (of : List Decree) →
@@ -586,7 +589,7 @@ module _ (setup : Setup) (k : Kept) (s : Node) (stands : Stands setup k s) (tell
     unproposed_2 act due = due
 
     unreported : (act : Act) → DueToReport setup.nodes setup.node s.actor t.actor act → ⊥
-    unreported (Reports other chain) due = due.new chain due.final (knew other chain due.known) due.ends
+    unreported (Reports other chain) due = due.new (knew other chain due.known)
     unreported act due = due
 
     -- ---- who is answered

@@ -17,7 +17,7 @@ use Rattle.mc_model.specs.synod.OneSlot.{Vote}
 use Rattle.mc_model.specs.synod.Packet.{slot_at}
 use Rattle.mc_model.specs.node.Actor.{Waiting, id_in}
 use Rattle.mc_model.specs.node.Alone.{Node}
-use Rattle.mc_model.specs.node.FirstRule.{Close, Delete, Expire, FitsRule, Follow, GiveUp, Lose, Rule, Take, Try, Undeliver, order_of}
+use Rattle.mc_model.specs.node.FirstRule.{Announce, Close, Delete, Expire, FitsRule, Follow, GiveUp, Lose, Rule, Take, Try, Undeliver, order_of}
 use Rattle.mc_model.specs.node.Knowledge.{IsKnown, Knows}
 use Rattle.mc_model.specs.node.Rules.{IsShownAt}
 use Rattle.mc_model.specs.node.Setup.{Setup}
@@ -170,3 +170,4 @@ module _ (setup : Setup) (k : Kept) (s : Node) (agrees : Agrees setup k s) where
   fits_in up id Expire place chain fits = behind_in up id Expire place chain (omega arith) fits
   fits_in up id Undeliver place chain fits = behind_in up id Undeliver place chain (omega arith) fits
   fits_in up id Try place chain fits = behind_in up id Try place chain (omega arith) fits
+  fits_in up id Announce place chain fits = behind_in up id Announce place chain (omega arith) fits

@@ -217,7 +217,7 @@ module _ (setup : Setup) (k : Kept) (s : Node) (stands : Stands setup k s) (work
   replies_none act due = due
 
   reports_none : (act : Act) → DueToReport setup.nodes setup.node s.actor risen act → ⊥
-  reports_none (Reports id chain) due = due.new chain due.final due.known due.ends
+  reports_none (Reports id chain) due = due.new due.known
   reports_none act due = due
 
   exact : IsExact setup s.actor s.records (Tick moment up) (prepares ++ (abandons ++ (asks ++ (late ++ core))))

@@ -8,34 +8,35 @@ use Rattle.std.proofs.lemmas.Bool.{and_parts, eqb-false, eqb-true, true≢false}
 use Rattle.std.proofs.lemmas.Bool.Decides.{Decides-and, Decides-eqb, Decides-like, Decides-ltb, Decides-or, nat_tests}
 use Rattle.mc_model.specs.message.Ids.{incarnation_of, node_of, serial_of}
 use Rattle.mc_model.specs.message.Submission.{Submission}
-use Rattle.mc_model.specs.message.Decree.{Decree}
-use Rattle.mc_model.specs.message.Chain.{IsPermitted, taken_in}
+use Rattle.mc_model.specs.message.Decree.{Decree, Final, Told}
+use Rattle.mc_model.specs.message.Chain.{IsPermitted, final_in, taken_in}
 use Rattle.mc_model.specs.synod.Lists.{In}
 use Rattle.mc_model.specs.synod.OneSlot.{Vote}
 use Rattle.mc_model.specs.synod.Packet.{Packet, Promise, Slot, Voted, slot_at, slot_of}
 use Rattle.mc_model.specs.node.Act.{Act, Proposes}
 use Rattle.mc_model.specs.node.Actor.{Waiting, id_in}
 use Rattle.mc_model.specs.node.Alone.{Node, StandsAt}
-use Rattle.mc_model.specs.node.Causes.{Causes, CausesDelete, CausesFollow}
+use Rattle.mc_model.specs.node.Causes.{Causes, CausesDelete, CausesFollow, CausesTold}
 use Rattle.mc_model.specs.node.Concerns.{Concerns, IsMember, WasGiven}
 use Rattle.mc_model.specs.node.Input.{Delivery}
 use Rattle.mc_model.specs.node.Knowledge.{IsKnown, IsLearned, Knows}
 use Rattle.mc_model.specs.node.Phases.{DueToPropose}
 use Rattle.mc_model.specs.node.Rounds.{IsPromised, IsRunning}
 use Rattle.mc_model.specs.node.Proposal.{IsOwn}
-use Rattle.mc_model.specs.node.Rules.{FitsDelete}
+use Rattle.mc_model.specs.node.Rules.{FitsDelete, IsDue}
 use Rattle.mc_model.specs.node.Setup.{Setup}
 use Rattle.mc_parts.proofs.Known.{knows_one}
-use Rattle.node_model.specs.Answers.{answer_to, receipts_of, replied, replies_to, reply_of, still_waits}
+use Rattle.mc_parts.proofs.Tellings.{unannounced}
+use Rattle.node_model.specs.Answers.{answer_to, had_fate, is_known_so, receipts_of, replied, replies_to, reply_of, still_waits}
 use Rattle.node_model.specs.Kept.{Held, Kept, message_at, with_message}
 use Rattle.node_model.specs.Learner.{heard, is_shorter, makes_known}
 use Rattle.node_model.specs.Message.{Message, Round}
 use Rattle.node_model.specs.Outputs.{leaves, sends}
-use Rattle.node_model.specs.Packets.{answered_then, is_member, known_then, on_known, on_voted, settled_for, vote_concerns, was_given}
+use Rattle.node_model.specs.Packets.{answered_then, is_member, known_then, on_known, on_voted, settled_for, start_known, vote_concerns, was_given}
 use Rattle.node_model.specs.Proposer.{Prepared, Start, started, unless_reached}
 use Rattle.node_model.specs.Requests.{id_of, settled_by, settles}
 use Rattle.node_model.specs.Sets.{is_majority}
-use Rattle.node_model.specs.Starts.{delete_for, delete_of}
+use Rattle.node_model.specs.Starts.{announced, delete_for, delete_of, tell_for, tell_of}
 use Rattle.node_model.specs.Stepped.{stepped}
 use Rattle.node_laws.specs.Stands.{Agrees, CoversGrant, HasHeard, IsBehind, IsHighestReport, IsMessage, IsRound, IsRoundOf as IsKeptRound, Stands}
 use Rattle.node_laws.specs.Steps.{IsAtWork, StepsAs}
@@ -49,10 +50,11 @@ use Rattle.node_laws.proofs.invariant.Learning.{known_before, known_more}
 use Rattle.node_laws.proofs.invariant.Messages.{each_with}
 use Rattle.node_laws.proofs.step.Plain.{plain_steps}
 use Rattle.node_laws.proofs.step.Busy.{busy_steps, report_out, same_id}
-use Rattle.node_laws.proofs.invariant.Decided.{Decided}
-use Rattle.node_laws.proofs.step.Deleting.{deletes_start}
+use Rattle.node_laws.proofs.invariant.Decided.{Decided, decided_as, either_decided}
+use Rattle.node_laws.proofs.step.Announcing.{fate_before, no_fate_before}
+use Rattle.node_laws.proofs.step.Deleting.{deletes_start, tells_start}
 use Rattle.node_laws.proofs.invariant.Held.{kept_as, waits_among}
-use Rattle.node_laws.proofs.step.KnownRules.{delete_decided}
+use Rattle.node_laws.proofs.step.KnownRules.{announce_decided, delete_decided}
 use Rattle.node_laws.proofs.invariant.Orders.{in_mapped}
 use Rattle.node_model.proofs.Places.{message_elsewhere, message_here}
 use Rattle.node_laws.proofs.invariant.Running.{round_later}
@@ -60,7 +62,7 @@ use Rattle.node_laws.proofs.invariant.Slots.{slot_decides}
 use Rattle.node_laws.proofs.invariant.Replied.{cancels_of, replies_of, waits_on}
 use Rattle.node_laws.proofs.step.Reporting.{Reported, reported}
 use Rattle.node_laws.proofs.invariant.Settled.{all_settled, settled_agrees}
-use Rattle.node_laws.proofs.step.Started.{IsStartOf, StartsAs, started_as}
+use Rattle.node_laws.proofs.step.Started.{IsDueStart, IsStartOf, StartsAs, started_as}
 use Rattle.node_laws.proofs.invariant.Waiting.{waits}
 use Rattle.mc_model.specs.message.Ids.{IsNode}
 use Rattle.mc_model.specs.node.Replies.{Answer}
@@ -344,11 +346,18 @@ module _ (setup : Setup) (k : Kept) (s : Node) (stands : Stands setup k s) (vote
       abbrev Starts : ℕ → ℕ → List Decree → Type 0
       Starts other place chain = Causes setup.nodes setup.node s.actor s_2.actor (Delivery packet) other place chain
 
-      deletes_of : (other place : ℕ) (chain : List Decree) → Starts other place chain → CausesDelete setup.nodes setup.node s.actor s_2.actor other place chain
-      deletes_of other place chain (inl take) = absurd take
-      deletes_of other place chain (inr (inl close)) = absurd close
-      deletes_of other place chain (inr (inr (inl follows))) = absurd follows
-      deletes_of other place chain (inr (inr (inr deletes))) = deletes
+      -- a deletion, or that a receipt is told
+      abbrev Deletes : ℕ → ℕ → List Decree → Type 0
+      Deletes other place chain = CausesDelete setup.nodes setup.node s.actor s_2.actor other place chain
+
+      abbrev Tells : ℕ → ℕ → List Decree → Type 0
+      Tells other place chain = CausesTold setup.nodes setup.node s.actor s_2.actor other place chain
+
+      either_of : (other place : ℕ) (chain : List Decree) → Starts other place chain → Deletes other place chain ⊎ Tells other place chain
+      either_of other place chain (inl take) = absurd take
+      either_of other place chain (inr (inl close)) = absurd close
+      either_of other place chain (inr (inr (inl follows))) = absurd follows
+      either_of other place chain (inr (inr (inr own))) = own
 
       -- a cancel_sm of another message that is settled now was settled before
       settled_before : (other : ℕ) → (other ≡ id → ⊥) → (w : Waiting) → In w s_2.actor.waiting → id_in w.request ≡ other → In w s.actor.waiting
@@ -378,47 +387,61 @@ module _ (setup : Setup) (k : Kept) (s : Node) (stands : Stands setup k s) (vote
           by_id true same = eqb-true other id same
           by_id false differs =
               let apart : other ≡ id → ⊥ = eqb-false other id differs in
-              let it = deletes_of other place chain starts in
-              let c = it.deletes.cancelled in
-              absurd (it.new
-              (record {
-                waiting = c.waiting;
-                waits = settled_before other apart c.waiting c.waits (cancels_of c.waiting.request other it.deletes.further.taken c.cancels);
-                ticket_is = refl;
-                settled = c.settled;
-              })
-              (knew_elsewhere other apart _ it.deletes.further.known))
+              elim (either_of other place chain starts) [
+                | inl it ↦
+                    let c = it.deletes.cancelled in
+                    absurd (it.new
+                    (record {
+                      waiting = c.waiting;
+                      waits = settled_before other apart c.waiting c.waits (cancels_of c.waiting.request other it.deletes.further.taken c.cancels);
+                      ticket_is = refl;
+                      settled = c.settled;
+                    })
+                    (knew_elsewhere other apart _ it.deletes.further.known))
+                | inr tells ↦ absurd (unannounced setup.nodes setup.node s.actor s_2.actor other place chain (knew_elsewhere other apart) tells)
+              ]
 
       unproposed : (act : Act) → DueToPropose setup.nodes setup.node s.actor s_2.actor act → ⊥
       unproposed (Proposes at cast) due = due.0.new (promised_before at cast.ballot
           (record { test = due.0.promised.test; most = due.0.promised.most; each = due.0.promised.each }))
       unproposed act due = due
 
-      -- ---- the deletion
+      -- ---- the deletion, or the Told
 
-      fits_of : (place : ℕ) (chain : List Decree) → Starts id place chain → FitsDelete setup.nodes setup.node s_2.actor id place chain
-      fits_of place chain starts = (deletes_of id place chain starts).deletes
+      abbrev Fits : ℕ → List Decree → Type 0
+      Fits place chain = FitsDelete setup.nodes setup.node s_2.actor id place chain ⊎ Tells id place chain
 
-      due_of : (place : ℕ) (chain : List Decree) → FitsDelete setup.nodes setup.node s_2.actor id place chain → Starts id place chain
-      due_of place chain fits = inr (inr (inr (record {
+      fits_of : (place : ℕ) (chain : List Decree) → Starts id place chain → Fits place chain
+      fits_of place chain starts = elim (either_of id place chain starts) [ inl it ↦ inl it.deletes | inr tells ↦ inr tells ]
+
+      deletion_due : (place : ℕ) (chain : List Decree) → FitsDelete setup.nodes setup.node s_2.actor id place chain → Starts id place chain
+      deletion_due place chain fits = inr (inr (inr (inl (record {
         deletes = fits;
         new = λ was knew. not_known_before (subst (Knows setup.nodes s.actor.received id)
             (one_known (fits.further.newest ∷ fits.further.older) fits.further.known) knew);
-      })))
+      }))))
 
-      one_place : (place at : ℕ) (chain of : List Decree) → FitsDelete setup.nodes setup.node s_2.actor id place chain →
-          FitsDelete setup.nodes setup.node s_2.actor id at of → at ≡ place
-      one_place place at chain of fits other =
-          let same : other.further.newest ∷ other.further.older ≡ fits.further.newest ∷ fits.further.older =
-          one_known (other.further.newest ∷ other.further.older) other.further.known
-          ∙ sym (one_known (fits.further.newest ∷ fits.further.older) fits.further.known) in
-          other.further.behind ∙ ap length same ∙ sym fits.further.behind
+      -- it goes behind what is known
+      place_of : (place : ℕ) (chain : List Decree) → Fits place chain → place ≡ length vote.chain
+      place_of place chain (inl fits) =
+          fits.further.behind ∙ ap length (one_known (fits.further.newest ∷ fits.further.older) fits.further.known)
+      place_of place chain (inr tells) =
+          tells.due.further.behind ∙ ap length (one_known (tells.due.further.newest ∷ tells.due.further.older) tells.due.further.known)
 
-      decided_start : (start : Option Start) → Decided start (FitsDelete setup.nodes setup.node s_2.actor id) → IsStartOf setup s_2 id (Starts id) start
+      one_place : (place : ℕ) (chain : List Decree) → Fits place chain → (at : ℕ) (of : List Decree) → Starts id at of → at ≡ place
+      one_place place chain fits at of starts = place_of at of (fits_of at of starts) ∙ sym (place_of place chain fits)
+
+      fit_starts : (start : Start) → Fits start.place start.chain → IsDueStart setup s_2 id (Starts id) start
+      fit_starts start (inl fits) =
+          deletes_start setup s_2 agrees_2.coherent id (Starts id) start (deletion_due start.place start.chain fits)
+          (one_place start.place start.chain (inl fits)) fits
+      fit_starts start (inr tells) =
+          tells_start setup s_2 agrees_2.coherent id (Starts id) start (inr (inr (inr (inr tells))))
+          (one_place start.place start.chain (inr tells)) tells.due
+
+      decided_start : (start : Option Start) → Decided start Fits → IsStartOf setup s_2 id (Starts id) start
       decided_start None none = λ place chain starts. none place chain (fits_of place chain starts)
-      decided_start (Some start) fits =
-          deletes_start setup s_2 agrees_2.coherent id (Starts id) start (due_of start.place start.chain fits)
-          (λ place chain starts. one_place start.place place start.chain chain fits (fits_of place chain starts)) fits
+      decided_start (Some start) fits = fit_starts start fits
 
       -- of no chain, or of one that took no message, nothing is deleted
       none_taken : (chain : List Decree) → vote.chain ≡ chain → taken_in chain ≡ None → (place : ℕ) (of : List Decree) →
@@ -440,12 +463,44 @@ module _ (setup : Setup) (k : Kept) (s : Node) (stands : Stands setup k s) (vote
       delete_is [] is = none_taken [] is refl
       delete_is (newest ∷ older) is = delete_taken newest older is (taken_in (newest ∷ older)) refl
 
+      -- ---- the Told alone
+
+      untaken : (chain : List Decree) → vote.chain ≡ chain → taken_in chain ≡ None → (place : ℕ) (of : List Decree) → Tells id place of → ⊥
+      untaken chain is none place of tells =
+          let further = tells.due.further in
+          let same : further.newest ∷ further.older ≡ chain = one_known (further.newest ∷ further.older) further.known ∙ is in
+          let both : Some further.taken ≡ None = sym further.message ∙ ap taken_in same ∙ none in
+          absurd (cc)
+
+      tell_taken : (newest : Decree) (older : List Decree) → vote.chain ≡ newest ∷ older →
+          ((before : List Decree) (final : Final) → Knows setup.nodes s.actor.received id before → final_in before ≡ Some final → ⊥) →
+          (taken : Option Submission) → taken_in (newest ∷ older) ≡ taken → Decided (tell_of setup k_2 newest older taken) (Tells id)
+      tell_taken newest older is unfated None none = untaken (newest ∷ older) is none
+      tell_taken newest older is unfated (Some taken) message =
+          decided_as (λ place chain. IsDue setup.nodes setup.node s_2.actor id place chain Told) (Tells id) (announced setup k_2 taken newest older newest.kind)
+          (λ place chain due. record { due = due; new = unfated }) (λ place chain tells. tells.due)
+          (announce_decided setup s_2.actor k_2 id agrees_2.incarnation agrees_2.clock newest older taken
+          (subst (Knows setup.nodes t.actor.received id) is knows_now) message)
+
+      tell_is : (chain : List Decree) → vote.chain ≡ chain → Decided (tell_for setup k_2 m.known chain) (Tells id)
+      tell_is [] is = untaken [] is refl
+      tell_is (newest ∷ older) is = by_fate (had_fate m.known) refl
+        where
+          by_fate : (had : Bool) → had_fate m.known ≡ had →
+              Decided (if had then None else tell_of setup k_2 newest older (taken_in (newest ∷ older))) (Tells id)
+          by_fate true fate = λ place of tells.
+              let it = fate_before setup.nodes s.actor.received id m.known old.heard.known fate in
+              tells.new it.older it.final it.knew it.ends
+          by_fate false fate = tell_taken newest older is (no_fate_before setup.nodes s.actor.received id m.known old.heard.known fate)
+              (taken_in (newest ∷ older)) refl
+
       abbrev start : Option Start
-      start = delete_for setup k_2 id held_2 (Some vote.chain)
+      start = start_known setup k_2 id m.known vote.chain
 
       starts : StartsAs setup k_2 s_2 id (Starts id) (started setup k_2 id start)
       starts = started_as setup k_2 s_2 agrees_2 mine (record { least = works.least; most = works.most; up = works.up }) id (Starts id) start
-          (decided_start start (delete_is vote.chain refl))
+          (decided_start start (either_decided (FitsDelete setup.nodes setup.node s_2.actor id) (Tells id) (delete_for setup k_2 id held_2 (Some vote.chain))
+          (tell_for setup k_2 m.known vote.chain) (delete_is vote.chain refl) (tell_is vote.chain refl)))
 
       -- ---- who is answered
 
@@ -478,9 +533,14 @@ module _ (setup : Setup) (k : Kept) (s : Node) (stands : Stands setup k s) (vote
 
       -- ---- the step
 
-      receipt : Reported setup.nodes setup.node s.actor t.actor id m.known vote.chain old.heard.known knows_now knew_elsewhere
-          (receipts_of setup.node id m.known vote.chain)
-      receipt = reported setup.nodes setup.node s.actor t.actor id m.known vote.chain old.heard.known knows_now knew_elsewhere
+      fresh : (before : Option (List Decree)) → IsKnown setup.nodes s.actor.received id before → is_known_so before vote.chain ≡ false
+      fresh None is = refl
+      fresh (Some chain) is = let less = shorter chain is in grind (arith, nat_tests)
+
+      receipt : Reported setup.nodes setup.node k.incarnation s.actor t.actor stands.agrees.incarnation id m.known vote.chain (fresh m.known old.heard.known)
+          not_known_before knows_now knew_elsewhere (receipts_of setup.node k.incarnation id m.known vote.chain)
+      receipt = reported setup.nodes setup.node k.incarnation s.actor t.actor stands.agrees.incarnation id m.known vote.chain (fresh m.known old.heard.known)
+          not_known_before knows_now knew_elsewhere
 
       abbrev after : Prepared
       after = started setup k_2 id start
@@ -504,7 +564,7 @@ module _ (setup : Setup) (k : Kept) (s : Node) (stands : Stands setup k s) (vote
       on_known_steps =
           subst (λ (held : List Held). StepsAs setup s (Delivery packet)
           (answered_then setup (record k1 { held = held }) id m.known vote.chain
-          (started setup (record k1 { held = held }) id (delete_for setup (record k1 { held = held }) id held (Some vote.chain)))))
+          (started setup (record k1 { held = held }) id (start_known setup (record k1 { held = held }) id m.known vote.chain))))
           (sym (held_same k.held (λ h among. among))) known_steps
 
   -- ---- a vote that concerns the node
