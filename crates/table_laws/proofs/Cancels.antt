@@ -1,5 +1,5 @@
 -- A cancel_sm comes to a node by itself, which settles.
-use Rattle.std.proofs.Common.{◌≡◌, ℕ, Bool, true, false, List, [], ◌∷◌, length, max, Option, Some, None, refl, sym, ap, subst, ◌∙◌, inl, inr, arith}
+use Rattle.std.proofs.Common.{◌≡◌, ℕ, Bool, true, false, List, [], ◌∷◌, length, max, Option, Some, None, refl, sym, ap, ◌∙◌, inl, inr, arith}
 use Rattle.std.specs.Prelude.{◌&&◌, ◌||◌, if◌then◌else◌}
 use Rattle.std.proofs.lemmas.Bool.{and_parts, true≢false}
 use Rattle.mc_model.specs.message.Decree.{Attempt, Decree, Deleted, Delivered, Expired, Failed, Fate, Told, Final, Kind, Rejected, Taken, Undeliverable}
@@ -8,11 +8,11 @@ use Rattle.mc_model.specs.message.Submission.{Submission}
 use Rattle.mc_model.specs.synod.Packet.{Ask, Name, Packet, Prepare, Tell, TopVote, slot_at}
 use Rattle.mc_model.specs.node.Actor.{Cancel, Request}
 use Rattle.mc_model.specs.node.Input.{Arrival, Delivery}
-use Rattle.mc_model.specs.node.Outputs.{Reply}
+use Rattle.mc_model.specs.node.Outputs.{Receipt, Reply}
 use Rattle.mc_model.specs.node.Replies.{NotMatched}
 use Rattle.mc_model.specs.node.Setup.{Setup}
 use Rattle.node_model.specs.Acceptor.{told_of}
-use Rattle.node_model.specs.Answers.{answer_by, answer_to, cancel_answer, cancel_answer_of, is_match, receipts_of}
+use Rattle.node_model.specs.Answers.{answer_by, answer_to, cancel_answer, cancel_answer_of, is_match}
 use Rattle.node_model.specs.Kept.{Held, Kept, message_at, with_message}
 use Rattle.node_model.specs.Outputs.{sends}
 use Rattle.node_model.specs.Packets.{answer_told, settled_told, start_told}
@@ -22,18 +22,18 @@ use Rattle.node_model.specs.Starts.{delete_for, is_idle}
 use Rattle.node_model.specs.Stepped.{stepped}
 use Rattle.node_model.specs.Ticks.{begun_with}
 use Rattle.table_laws.specs.Alone.{alone}
-use Rattle.table_laws.specs.Tables.{TableNode, cancelled, decree_by, is_deleted, is_meant, known_as, receipts_by, removed, removed_in, reply_to}
-use Rattle.table_laws.specs.Tables.{requested, with_entry, chain_at, Table, extended, decreed, Entry}
+use Rattle.table_laws.specs.Tables.{TableNode, cancelled, decree_by, is_deleted, is_meant, known_as, receipts_by, receipts_with, removed, removed_in, reply_to, settled}
+use Rattle.table_laws.specs.Tables.{requested, with_entry, chain_at, Table, decreed}
 use Rattle.table_laws.specs.Resting.{IsResting, IsTaken, IsTakenIfAny}
 use Rattle.table_laws.specs.Settling.{SettlesOn}
-use Rattle.table_laws.proofs.Frames.{eqb_self, entry_here}
+use Rattle.table_laws.proofs.Frames.{eqb_self}
 use Rattle.table_laws.proofs.Leading.{Leads, leads_on, leads_sending, leads_then, settling, few_enough}
 use Rattle.table_laws.proofs.Deliveries.{ask_delivered}
 use Rattle.table_laws.proofs.Carrying.{ballot, round_starts, start, tried}
-use Rattle.table_laws.proofs.Ending.{AllAnswered, ends_after, round_ends, round_orderly, settles_after}
+use Rattle.table_laws.proofs.Ending.{AllAnswered, ends_after, settles_after}
+use Rattle.table_laws.proofs.Coming.{round_ends, round_orderly}
 use Rattle.table_laws.proofs.Calm.{IsCalm, arrived, calm_arrived, held_arrived, newcomer, noted, rests_still, calm_with, calm_but}
 use Rattle.table_laws.proofs.Asking.{IsReachedBy, answer_given, name, tell_delivered, told_is_reached}
-use Rattle.table_laws.proofs.Queries.{no_receipt}
 
 module _ (first validity : ℕ) (k : Kept) (t : TableNode) (id : ℕ) (account source destination : List ℕ) (resting : IsResting k t) where
   abbrev setup : Setup
@@ -148,10 +148,9 @@ module _ (first validity : ℕ) (k : Kept) (t : TableNode) (id : ℕ) (account s
   abbrev reply_for : List Decree → Reply
   reply_for chain = record { ticket = t.ticket; id = id; answer = cancelled account source destination chain (taken_in chain) }
 
-  abbrev Comes : Table → List Decree → Type 0
-  Comes table chain =
-      SettlesOn setup (stepped setup k (Arrival request)) (record (noted t request) { table = table }) (reply_for chain ∷ [])
-      (receipts_of 1 id (known_as old) chain)
+  abbrev Comes : Table → List Decree → List Receipt → Type 0
+  Comes table chain receipts =
+      SettlesOn setup (stepped setup k (Arrival request)) (record (noted t request) { table = table }) (reply_for chain ∷ []) receipts
 
   -- ---- it is not deleted
 
@@ -181,11 +180,9 @@ module _ (first validity : ℕ) (k : Kept) (t : TableNode) (id : ℕ) (account s
       by_match true is = by_state (final_in (newest ∷ older)) newest.kind is
       by_match false is = refl
 
-  kept : is_deleted account source destination old ≡ false → Comes t.table old
+  kept : is_deleted account source destination old ≡ false → Comes t.table old []
   kept not_deleted =
-      subst (SettlesOn setup (stepped setup k (Arrival request)) (noted t request) (reply_for old ∷ []))
-      (sym (no_receipt id old))
-      (settles_after setup _ _ (noted t request) (reply_for old ∷ []) [] begun_is refl refl (inr (inl refl)) (record {
+      settles_after setup _ _ (noted t request) (reply_for old ∷ []) [] begun_is refl refl (inr (inl refl)) (record {
         kept = record k0 { held = [] };
         leads = asked (record k0 { held = [] }) [] (reply_for old ∷ []) (told_is
             ∙ (answer_given setup k0 known new heard held (cancelled account source destination old (taken_in old)) (held_arrived k t request resting) refl
@@ -193,7 +190,7 @@ module _ (first validity : ℕ) (k : Kept) (t : TableNode) (id : ℕ) (account s
             ∙ (λ i. sends (record k0 { held = [] }) []
             (record { ticket = resting.ticket i; id = id; answer = cancelled account source destination old (taken_in old) } ∷ []) [])));
         resting = rests_still k0 (noted t request) calm;
-      }) (few_enough (noted t request) (omega arith)))
+      }) (few_enough (noted t request) (omega arith))
 
   -- ---- it is deleted
 
@@ -255,25 +252,24 @@ module _ (first validity : ℕ) (k : Kept) (t : TableNode) (id : ℕ) (account s
     taken_then : IsTaken k1 id (decree ∷ old)
     taken_then = record { message = meant.taken.message; taken = meant.taken.taken; given = meant.taken.given }
 
-    deleted_then : Comes (with_entry t.table id (extended old decree)) (decree ∷ old)
+    abbrev table_then : TableNode
+    table_then = record (noted t request) { table = with_entry t.table id (settled t old decree) }
+
+    deleted_then : Comes (with_entry t.table id (settled t old decree)) (decree ∷ old) (receipts_with t id old decree)
     deleted_then =
-        settles_after setup _ _ (record (noted t request) { table = with_entry t.table id (extended old decree) }) (reply_for (decree ∷ old) ∷ [])
-        (receipts_of 1 id (known_as old) (decree ∷ old)) begun_is refl refl
-        (inr (inr (round_orderly first validity k1 (noted t request) id decree (held ∷ []) (reply_for (decree ∷ old) ∷ [])
+        settles_after setup _ _ table_then (reply_for (decree ∷ old) ∷ []) (receipts_with t id old decree) begun_is refl refl
+        (inr (inr (round_orderly first validity k1 (noted t request) id old decree (held ∷ []) (reply_for (decree ∷ old) ∷ [])
         (calm_but id k1 (noted t request) calm_then) (calm_then.message id).ready held_is taken_then answered _ (asked _ _ [] told_then))))
-        (ends_after setup _ _ (record (noted t request) { table = with_entry t.table id (extended old decree) })
-        (reply_for (decree ∷ old) ∷ []) (receipts_of 1 id (known_as old) (decree ∷ old))
-        (asked _ _ [] told_then)
-        (round_ends first validity k1 (noted t request) id decree (held ∷ []) (reply_for (decree ∷ old) ∷ [])
+        (ends_after setup _ _ table_then (reply_for (decree ∷ old) ∷ []) (receipts_with t id old decree) (asked _ _ [] told_then)
+        (round_ends first validity k1 (noted t request) id old decree (held ∷ []) (reply_for (decree ∷ old) ∷ [])
         (calm_but id k1 (noted t request) calm_then) (calm_then.message id).ready held_is taken_then answered))
-        (few_enough (record (noted t request) { table = with_entry t.table id (extended old decree) }) (omega arith))
+        (few_enough table_then (omega arith))
 
   pub cancel_settles : SettlesOn setup (stepped setup k (Arrival request)) (requested t request) (reply_to t request ∷ []) (receipts_by t request)
   cancel_settles = by_test (is_deleted account source destination old) refl
     where
       by_test : (test : Bool) → is_deleted account source destination old ≡ test →
-          Comes (if test then decreed t id (Fate Deleted 0) else t.table) (chain_at (if test then decreed t id (Fate Deleted 0) else t.table) id)
-      by_test true deleted =
-          subst (Comes (with_entry t.table id (extended old decree)))
-          (sym (ap (λ (e : Entry). e.chain) (entry_here t.table id (extended old decree)))) (deleted_then deleted)
+          Comes (if test then decreed t id (Fate Deleted 0) else t.table) (if test then decree ∷ old else old)
+          (if test then receipts_with t id old decree else [])
+      by_test true deleted = deleted_then deleted
       by_test false not_deleted = kept not_deleted

@@ -33,6 +33,25 @@ entry_here table id entry = ap (λ (o : Option Entry). unwrap_or o nothing) (her
 pub entry_elsewhere : (table : Table) (id other : ℕ) (entry : Entry) → (other ≡ id → ⊥) → entry_at (with_entry table id entry) other ≡ entry_at table other
 entry_elsewhere table id other entry apart = ap (λ (o : Option Entry). unwrap_or o nothing) (elsewhere id entry other apart table)
 
+-- an entry that another one replaces is gone
+same_key : (key : ℕ) → nat_cmp key key ≡ Equal
+same_key key = grind (arith, nat_tests)
+
+entries_again : (table : Table) (id : ℕ) (one other : Entry) → insert_entry nat_cmp (insert_entry nat_cmp table id one) id other ≡ insert_entry nat_cmp table id other
+entries_again [] id one other = rw (same_key id) refl
+entries_again (first ∷ table) id one other = at_order (nat_cmp id first.0) refl (entries_again table id one other)
+  where
+    at_order : (o : Ordering) → nat_cmp id first.0 ≡ o →
+        insert_entry nat_cmp (insert_entry nat_cmp table id one) id other ≡ insert_entry nat_cmp table id other →
+        insert_entry nat_cmp (match_ordering o ((id, one) ∷ first ∷ table) ((first.0, one) ∷ table) (first ∷ insert_entry nat_cmp table id one)) id other
+        ≡ match_ordering o ((id, other) ∷ first ∷ table) ((first.0, other) ∷ table) (first ∷ insert_entry nat_cmp table id other)
+    at_order Less is rest = rw (same_key id) refl
+    at_order Equal is rest = rw is refl
+    at_order Greater is rest = rw is (ap (λ (es : Table). first ∷ es) rest)
+
+pub entry_again : (table : Table) (id : ℕ) (one other : Entry) → with_entry (with_entry table id one) id other ≡ with_entry table id other
+entry_again table id one other = entries_again table id one other
+
 -- ---- a record is saved
 
 pub record_of_other : (records : Records) (slot other : Slot) (r : SlotRecord) → (other.id ≡ slot.id → ⊥) → with_record records slot r other ≡ records other

@@ -25,7 +25,8 @@ use Rattle.table_laws.specs.Resting.{IsAtRest, IsResting, IsTaken}
 use Rattle.table_laws.specs.Settling.{SettlesOn}
 use Rattle.table_laws.proofs.Calm.{IsCalmBut, calm_at_rest, calm_but, rests_with}
 use Rattle.table_laws.proofs.Carrying.{round_starts, start}
-use Rattle.table_laws.proofs.Ending.{none_answered, round_ends, settles_after}
+use Rattle.table_laws.proofs.Ending.{none_answered, settles_after}
+use Rattle.table_laws.proofs.Coming.{round_ends}
 use Rattle.table_laws.proofs.Frames.{eqb_self, rest_but, same_with, taken_as}
 use Rattle.table_laws.proofs.Grounds.{IsGround, closed_ground, closed_then, taken_more}
 use Rattle.table_laws.proofs.Mapped.{among_keys, insert_listed}
@@ -180,7 +181,7 @@ module _ (first validity : ℕ) (k : Kept) (t : TableNode) (id : ℕ) (resting :
           refl
           refl
           (inl refl)
-          (round_ends first validity closed t id decree [] [] calm_then ground.ready resting.waits
+          (round_ends first validity closed t id old decree [] [] calm_then ground.ready resting.waits
           (taken_more closed id decree old (record { message = taken.message; taken = taken.taken; given = taken.given }))
           (none_answered first validity id decree old))
           (few_enough (concluded_at t id outcome) (omega arith))

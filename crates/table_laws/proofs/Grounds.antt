@@ -5,7 +5,7 @@ use Rattle.std.proofs.lemmas.Bool.{ne_eqb}
 use Rattle.mc_model.specs.message.Chain.{taken_by, taken_in}
 use Rattle.mc_model.specs.message.Decree.{Attempt, Decree, Failed, Fate, Told, Kind, Taken}
 use Rattle.mc_model.specs.message.Submission.{Submission}
-use Rattle.mc_model.specs.node.FirstRule.{Close, Delete, Expire, Follow, GiveUp, Lose, Rule, Take, Try, Undeliver}
+use Rattle.mc_model.specs.node.FirstRule.{Announce, Close, Delete, Expire, Follow, GiveUp, Lose, Rule, Take, Try, Undeliver}
 use Rattle.mc_model.specs.node.Outcome.{Outcome, Unanswered, no_session_error}
 use Rattle.node_model.specs.Kept.{Kept, message_at, with_message}
 use Rattle.node_model.specs.Message.{Message}
@@ -65,6 +65,7 @@ given_up_ground k id chain some ready Delete = own_ground k id chain ready
 given_up_ground k id chain some ready Expire = own_ground k id chain ready
 given_up_ground k id chain some ready Undeliver = own_ground k id chain ready
 given_up_ground k id chain some ready Try = own_ground k id chain ready
+given_up_ground k id chain some ready Announce = own_ground k id chain ready
 
 -- a message that was taken still was, whatever is decreed
 pub taken_more : (k : Kept) (id : ℕ) (decree : Decree) (old : List Decree) → IsTaken k id old → IsTaken k id (decree ∷ old)

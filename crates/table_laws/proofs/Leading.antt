@@ -21,7 +21,7 @@ pub record Leads (setup : Setup) (most : ℕ) (s t : Settling) : Type 0 where
   pub few : deliveries ≤ most
   pub reached : delivered setup deliveries s ≡ t
 
-pub few_enough : {n : ℕ} (t : TableNode) → n ≤ 6 → n ≤ most_deliveries t
+pub few_enough : {n : ℕ} (t : TableNode) → n ≤ 10 → n ≤ most_deliveries t
 few_enough t few = omega (arith, few)
 
 module _ (setup : Setup) where

@@ -4,8 +4,11 @@ pub mod Leading
 pub mod Unmoved
 pub mod Stages
 pub mod Carrying
+pub mod Tellings
 pub mod Calm
 pub mod Ending
+pub mod Ways
+pub mod Coming
 pub mod Single
 pub mod Opening
 pub mod Submits
@@ -17,6 +20,7 @@ pub mod Rules
 pub mod Apart
 pub mod Phases
 pub mod SideBySide
+pub mod Behind
 pub mod Grounds
 pub mod Ruling
 pub mod Mapped

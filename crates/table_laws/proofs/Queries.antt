@@ -1,16 +1,15 @@
 -- A query_sm comes to a node by itself, which settles.
-use Rattle.std.proofs.Common.{◌≡◌, ℕ, Bool, true, false, List, [], ◌∷◌, Option, Some, None, is_none, refl, sym, ap, subst, ◌∙◌, inl, inr, arith}
-use Rattle.std.specs.Prelude.{◌==◌, ◌&&◌, not, if◌then◌else◌}
-use Rattle.mc_model.specs.message.Decree.{Decree, Final}
-use Rattle.mc_model.specs.message.Chain.{final_in, taken_in}
-use Rattle.mc_model.specs.message.Ids.{node_of}
+use Rattle.std.proofs.Common.{◌≡◌, ℕ, Bool, true, false, List, [], ◌∷◌, Option, Some, None, refl, ap, ◌∙◌, inl, inr, arith}
+use Rattle.std.specs.Prelude.{if◌then◌else◌}
+use Rattle.mc_model.specs.message.Decree.{Decree}
+use Rattle.mc_model.specs.message.Chain.{taken_in}
 use Rattle.mc_model.specs.synod.Packet.{Ask, Name, Tell, TopVote}
 use Rattle.mc_model.specs.node.Actor.{Query, Request}
 use Rattle.mc_model.specs.node.Input.{Arrival, Delivery}
 use Rattle.mc_model.specs.node.Replies.{NotOwner, Shown}
 use Rattle.mc_model.specs.node.Setup.{Setup}
 use Rattle.node_model.specs.Acceptor.{told_of}
-use Rattle.node_model.specs.Answers.{answer_by, answer_to, is_owner, receipt_by, receipts_of}
+use Rattle.node_model.specs.Answers.{answer_by, answer_to, is_owner}
 use Rattle.node_model.specs.Kept.{Held, Kept, message_at}
 use Rattle.node_model.specs.Outputs.{sends}
 use Rattle.node_model.specs.Packets.{start_told}
@@ -27,23 +26,6 @@ use Rattle.table_laws.proofs.Deliveries.{ask_delivered}
 use Rattle.table_laws.proofs.Ending.{settles_after}
 use Rattle.table_laws.proofs.Calm.{IsCalm, arrived, calm_arrived, held_arrived, newcomer, noted, rests_still}
 use Rattle.table_laws.proofs.Asking.{IsReachedBy, answer_given, name, tell_delivered, told_is_reached}
-
--- ---- a chain that stays as it was has no receipt
-
-pub no_receipt : (id : ℕ) (chain : List Decree) → receipts_of 1 id (known_as chain) chain ≡ []
-no_receipt id [] = by_node (node_of id == 1)
-  where
-    by_node : (test : Bool) → (if test && true then receipt_by id [] None None else []) ≡ []
-    by_node true = refl
-    by_node false = refl
-no_receipt id (newest ∷ older) = by_final (final_in (newest ∷ older)) (node_of id == 1)
-  where
-    by_final : (final : Option Final) (test : Bool) →
-        (if test && not (not (is_none final)) then receipt_by id (newest ∷ older) final (taken_in (newest ∷ older)) else []) ≡ []
-    by_final None true = refl
-    by_final None false = refl
-    by_final (Some final) true = refl
-    by_final (Some final) false = refl
 
 -- ---- what it is answered
 
@@ -114,12 +96,11 @@ module _ (first validity : ℕ) (k : Kept) (t : TableNode) (id : ℕ) (account s
 
   pub query_settles : SettlesOn setup (stepped setup k (Arrival request)) (requested t request) (reply_to t request ∷ []) (receipts_by t request)
   query_settles =
-      subst (SettlesOn setup (stepped setup k (Arrival request)) (requested t request) (reply_to t request ∷ [])) (sym (no_receipt id old))
-      (settles_after setup _ _ (requested t request) (reply_to t request ∷ []) [] begun_is refl refl (inr (inl refl)) (record {
+      settles_after setup _ _ (requested t request) (reply_to t request ∷ []) [] begun_is refl refl (inr (inl refl)) (record {
         kept = end;
         leads =
             leads_then setup _ _ _ (leads_sending setup k0 (Ask 1 id named) [] [] [] k0 (Tell 1 named told ∷ [])
             (ask_delivered first validity k0 calm.up id named))
             (leads_on setup k0 (Tell 1 named told) [] [] [] (sends end [] (reply_to t request ∷ []) []) answered);
         resting = rests_still k0 (noted t request) calm;
-      }) (few_enough (requested t request) (omega arith)))
+      }) (few_enough (requested t request) (omega arith))

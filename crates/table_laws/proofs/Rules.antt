@@ -7,7 +7,7 @@ use Rattle.mc_model.specs.message.Decree.{Attempt, Decree, Expired, Failed, Fate
 use Rattle.mc_model.specs.message.Chain.{attempts_in, taken_in}
 use Rattle.mc_model.specs.message.Neighbours.{most_attempts, retry_delay}
 use Rattle.mc_model.specs.synod.Packet.{TopVote}
-use Rattle.mc_model.specs.node.FirstRule.{Close, Expire, GiveUp, Lose, Rule, Try, Undeliver}
+use Rattle.mc_model.specs.node.FirstRule.{Announce, Close, Expire, GiveUp, Lose, Rule, Try, Undeliver}
 use Rattle.mc_model.specs.node.Outcome.{no_session_error, older_incarnation_error}
 use Rattle.mc_model.specs.node.Setup.{Setup}
 use Rattle.node_model.specs.Acceptor.{told_of}
@@ -16,7 +16,7 @@ use Rattle.node_model.specs.Requests.{higher_top}
 use Rattle.node_model.specs.Rules.{Fitting, attempt_rule, first_rule, fitting, followed, idle_rule, if_so, known_rule, taken_for, is_attempt_by, shown_to}
 use Rattle.node_model.specs.Starts.{follow, start_behind, delete_for}
 use Rattle.table_laws.specs.Alone.{alone}
-use Rattle.table_laws.specs.Tables.{Entry, TableNode, decree_by, known_as}
+use Rattle.table_laws.specs.Tables.{Entry, TableNode, decree_by, is_to_tell, known_as}
 use Rattle.table_laws.specs.Ticks.{due, due_behind, due_if, due_of, due_of_attempt}
 use Rattle.table_laws.specs.Resting.{IsAtRest}
 use Rattle.table_laws.proofs.Asking.{told_is_reached}
@@ -51,6 +51,12 @@ module _ (first validity : ℕ) (k : Kept) (t0 : TableNode) (id : ℕ) (up : Lis
   fits_or chain (Some fit) two (Some kind) other fits also = fits
   fits_or chain None two (Some kind) other fits also = absurd fits
   fits_or chain (Some fit) two None other fits also = absurd fits
+
+  none_behind : (chain : List Decree) (one : Option Fitting) (some : Option Kind) → Fits chain one some → Fits chain (option_or one None) some
+  none_behind chain None None fits = tt
+  none_behind chain (Some fit) (Some kind) fits = fits
+  none_behind chain None (Some kind) fits = absurd fits
+  none_behind chain (Some fit) None fits = absurd fits
 
   none_so : (rule : Rule) (test : Bool) → fitting rule (if_so test None) ≡ None
   none_so rule true = refl
@@ -98,7 +104,8 @@ module _ (first validity : ℕ) (k : Kept) (t0 : TableNode) (id : ℕ) (up : Lis
         rw (undeleted (newest (Taken taken)) older)
         (fits_or (newest (Taken taken) ∷ older) _ _ _ _
         (fits_if (newest (Taken taken)) older Expire (Fate Expired 0) (nat_le message.expiry now))
-        (fits_both (newest (Taken taken)) older Try (Attempt 1) target (nat_le message.schedule now && nat_lt now message.expiry)))
+        (none_behind (newest (Taken taken) ∷ older) _ _
+        (fits_both (newest (Taken taken)) older Try (Attempt 1) target (nat_le message.schedule now && nat_lt now message.expiry))))
     own_as (Attempt number) = attempt_as number (author.node == 1)
     own_as (Failed error) =
         let attempts : ℕ = attempts_in (newest (Failed error) ∷ older) in
@@ -107,10 +114,13 @@ module _ (first validity : ℕ) (k : Kept) (t0 : TableNode) (id : ℕ) (up : Lis
         (fits_if (newest (Failed error)) older Expire (Fate Expired 0) (nat_le message.expiry now))
         (fits_or (newest (Failed error) ∷ older) _ _ _ _
         (fits_if (newest (Failed error)) older Undeliver (Fate Undeliverable error) (attempts_in (newest (Failed error) ∷ older) == most_attempts))
+        (none_behind (newest (Failed error) ∷ older) _ _
         (fits_both (newest (Failed error)) older Try (Attempt (attempts_in (newest (Failed error) ∷ older) + 1)) target
         (nat_lt (attempts_in (newest (Failed error) ∷ older)) most_attempts
-        && (nat_lt now message.expiry && nat_le (moment + retry_delay * attempts_in (newest (Failed error) ∷ older)) now)))))
-    own_as (Fate final error) = rw (undeleted (newest (Fate final error)) older, none_so Try target) tt
+        && (nat_lt now message.expiry && nat_le (moment + retry_delay * attempts_in (newest (Failed error) ∷ older)) now))))))
+    own_as (Fate final error) =
+        rw (undeleted (newest (Fate final error)) older, none_so Try target)
+        (fits_if (newest (Fate final error)) older Announce Told (is_to_tell message (newest (Fate final error) ∷ older) (Fate final error)))
     own_as Told = rw (undeleted (newest Told) older, none_so Try target) tt
 
   known_fits : (chain : List Decree) (granted : Bool) → IsAtRest k id (record { chain = chain; granted = granted }) →

@@ -129,16 +129,16 @@ module _ (first validity : ℕ) (t : TableNode) (up : List ℕ → Bool) where
 
   pub record Ruled (ids : List ℕ) (k : Kept) : Type 0 where
     pub new : Kept
-    pub prepared : ruled_each setup up ids k ≡ record { kept = new; packets = map (prepares first validity ballot) (rounds_of t up ids) }
-    pub each : Each (Goes (begun first validity ballot) (untouched first validity ballot)) new (rounds_of t up ids)
+    pub prepared : ruled_each setup up ids k ≡ record { kept = new; packets = map (prepares first validity t) (rounds_of t up ids) }
+    pub each : Each (Goes t (begun first validity t) (untouched first validity t)) new (rounds_of t up ids)
     pub same : IsSameApart (rounds_of t up ids) k new
 
   -- with what is due for the first of them
   record RuledBy (id : ℕ) (ids : List ℕ) (k : Kept) (kind : Option Kind) : Type 0 where
     new : Kept
     prepared : ruled_each setup up (id ∷ ids) k
-        ≡ record { kept = new; packets = map (prepares first validity ballot) (round_if t up id (entry_at t.table id) kind ++ rounds_of t up ids) }
-    each : Each (Goes (begun first validity ballot) (untouched first validity ballot)) new (round_if t up id (entry_at t.table id) kind ++ rounds_of t up ids)
+        ≡ record { kept = new; packets = map (prepares first validity t) (round_if t up id (entry_at t.table id) kind ++ rounds_of t up ids) }
+    each : Each (Goes t (begun first validity t) (untouched first validity t)) new (round_if t up id (entry_at t.table id) kind ++ rounds_of t up ids)
     same : IsSameApart (round_if t up id (entry_at t.table id) kind ++ rounds_of t up ids) k new
 
   -- the others are at rest still
@@ -150,8 +150,8 @@ module _ (first validity : ℕ) (t : TableNode) (up : List ℕ → Bool) where
   -- the round for what is due has started
   record StartsOne (id : ℕ) (k : Kept) (next : Next) : Type 0 where
     new : Kept
-    prepared : ruled setup k id (first_rule setup k up id) ≡ record { kept = new; packets = prepares first validity ballot next ∷ [] }
-    goes : Goes (begun first validity ballot) (untouched first validity ballot) new next
+    prepared : ruled setup k id (first_rule setup k up id) ≡ record { kept = new; packets = prepares first validity t next ∷ [] }
+    goes : Goes t (begun first validity t) (untouched first validity t) new next
     same : IsSameBut id k new
     held : new.held ≡ k.held
 
@@ -205,6 +205,8 @@ module _ (first validity : ℕ) (t : TableNode) (up : List ℕ → Bool) where
             let taken = taken_now k id old some rest.taken in
             taken_more started_then id decree old
             (record { message = taken.message; taken = taken.taken; given = given_as k started_then id same.incarnation same.serial taken.given });
+        incarnation = same.incarnation ∙ incarnation;
+        clock = same.clock ∙ clock;
       };
       same = same;
       held = ground.held;
@@ -228,9 +230,9 @@ module _ (first validity : ℕ) (t : TableNode) (up : List ℕ → Bool) where
     new = others.new;
     prepared =
         ap (λ (p : Prepared). and_then p (ruled_each setup up ids p.kept)) one.prepared
-        ∙ ap (and_then (record { kept = one.new; packets = prepares first validity ballot (next_at t up id (entry_at t.table id) kind) ∷ [] })) others.prepared;
+        ∙ ap (and_then (record { kept = one.new; packets = prepares first validity t (next_at t up id (entry_at t.table id) kind) ∷ [] })) others.prepared;
     each = (
-      goes_apart (begun first validity ballot) (untouched first validity ballot) (rounds_of t up ids) one.new others.new others.same
+      goes_apart t (begun first validity t) (untouched first validity t) (rounds_of t up ids) one.new others.new others.same
           (next_at t up id (entry_at t.table id) kind) (apart_from t up id ids away) one.goes,
       others.each,
     );

@@ -1,6 +1,7 @@
 -- A round of a node by itself: its Prepare, its promise, its Propose and its vote, and the chain that is known then.
-use Rattle.std.proofs.Common.{◌≡◌, ℕ, ◌<◌, true, List, [], ◌∷◌, get_or, length, map, filter, Option, Some, None, refl, ap, ◌∙◌, arith, false, Bool}
+use Rattle.std.proofs.Common.{◌≡◌, ℕ, ◌<◌, true, List, [], ◌∷◌, get_or, length, map, Option, Some, None, refl, ap, ◌∙◌, arith, false, Bool}
 use Rattle.std.specs.Prelude.{nat_le, nat_lt}
+use Rattle.std.specs.Option.{option_or}
 use Rattle.std.proofs.lemmas.Bool.{le-leb, lt-ltb}
 use Rattle.mc_model.specs.message.Decree.{Decree}
 use Rattle.mc_model.specs.synod.OneSlot.{Vote, vote_at}
@@ -11,12 +12,11 @@ use Rattle.mc_model.specs.node.Setup.{Setup}
 use Rattle.mc_model.specs.node.Outcome.{Outcome}
 use Rattle.node_model.specs.Message.{Message, Round}
 use Rattle.node_model.specs.Kept.{Held, Kept, message_at, saved, with_message}
-use Rattle.node_model.specs.Answers.{receipts_of, replies_to, still_waits}
 use Rattle.node_model.specs.Learner.{heard, is_shorter}
 use Rattle.node_model.specs.Outputs.{sends}
-use Rattle.node_model.specs.Packets.{answered_then, known_then, settled_for}
+use Rattle.node_model.specs.Packets.{answered_then, known_then, settled_for, start_known}
 use Rattle.node_model.specs.Proposer.{Start, started, unless_reached}
-use Rattle.node_model.specs.Starts.{delete_for}
+use Rattle.node_model.specs.Starts.{delete_for, tell_for}
 use Rattle.node_model.specs.Stepped.{stepped}
 use Rattle.node_model.proofs.Places.{message_here}
 use Rattle.table_laws.specs.Alone.{alone}
@@ -182,16 +182,21 @@ module _ (first validity : ℕ) (id : ℕ) (old : List Decree) (decree : Decree)
   pub known_same : (k : Kept) (held : List Held) → IsSameBut id k (known_with k held)
   known_same k held = same_with k id (known_then (learned k) chain) held
 
+  -- the start of its Told, if that is due
+  abbrev pub told_start : Kept → Option Start
+  told_start k = tell_for setup k (known_as old) chain
+
   -- its vote is delivered, and no deletion is to be started then
   pub vote_ends : (k : Kept) → k.up ≡ true → IsUnderWay id old k promised (after_vote vote) → IsTaken k id chain →
-      delete_for setup (known_with k (settled_held k)) id (settled_held k) (Some chain) ≡ None →
+      delete_for setup (known_with k (settled_held k)) id (settled_held k) (Some chain) ≡ None → (start : Option Start) →
+      told_start (known_with k (settled_held k)) ≡ start →
       stepped setup k (Delivery (Voted 1 slot vote))
-      ≡ sends (known_with k (filter (still_waits 1 (Some chain) id) (settled_held k))) [] (replies_to 1 (Some chain) id (settled_held k))
-      (receipts_of 1 id (known_as old) chain)
-  vote_ends k up under taken none =
+      ≡ answered_then setup (known_with k (settled_held k)) id (known_as old) chain (started setup (known_with k (settled_held k)) id start)
+  vote_ends k up under taken none start is =
       voted_delivered first validity k up slot vote (slot_self slot) taken.given
       (ap (λ (o : Option (List Decree)). is_shorter o chain) under.known ∙ is_longer old decree)
-      ∙ (ap (λ (start : Option Start). answered_then setup (known_with k (settled_held k)) id (message_at k id).known chain
-      (started setup (known_with k (settled_held k)) id start)) none
-      ∙ ap (λ (before : Option (List Decree)). sends (known_with k (filter (still_waits 1 (Some chain) id) (settled_held k))) []
-      (replies_to 1 (Some chain) id (settled_held k)) (receipts_of 1 id before chain)) under.known)
+      ∙ (ap (λ (before : Option (List Decree)). answered_then setup (known_with k (settled_held k)) id before chain
+      (started setup (known_with k (settled_held k)) id (start_known setup (known_with k (settled_held k)) id before chain))) under.known
+      ∙ ap (λ (it : Option Start). answered_then setup (known_with k (settled_held k)) id (known_as old) chain
+      (started setup (known_with k (settled_held k)) id it))
+      (ap (λ (deletes : Option Start). option_or deletes (told_start (known_with k (settled_held k)))) none ∙ is))

@@ -1,9 +1,8 @@
 -- A submit_sm comes to a node by itself, which settles.
-use Rattle.std.proofs.Common.{◌≡◌, ℕ, suc, true, List, [], ◌∷◌, length, Option, Some, refl, sym, ap, ◌∙◌, inl, inr, arith, subst, Bool, false, cond}
-use Rattle.std.specs.Prelude.{◌==◌, ◌&&◌, nat_lt, not}
+use Rattle.std.proofs.Common.{◌≡◌, ℕ, suc, true, List, [], ◌∷◌, length, Option, Some, refl, sym, ap, ◌∙◌, inl, inr, arith, subst, Bool, false}
+use Rattle.std.specs.Prelude.{◌==◌, ◌&&◌, if◌then◌else◌, nat_lt, not}
 use Rattle.std.proofs.lemmas.Bool.{and_from, and_parts, eq-eqb, lt-ltb, ltb-true, or_cases, or_right}
-use Rattle.mc_model.specs.message.Decree.{Decree, Taken}
-use Rattle.mc_model.specs.message.Chain.{final_in, taken_in}
+use Rattle.mc_model.specs.message.Decree.{Decree, Taken, Told}
 use Rattle.mc_model.specs.message.Ids.{IsIncarnation, IsSerial, id_of, incarnation_of, node_of, serial_of}
 use Rattle.mc_model.specs.message.Submission.{Submission}
 use Rattle.mc_model.specs.synod.Packet.{Prepare, slot_at}
@@ -16,14 +15,16 @@ use Rattle.node_model.specs.Proposer.{Start, started}
 use Rattle.node_model.specs.Starts.{take_for}
 use Rattle.node_model.specs.Stepped.{stepped}
 use Rattle.node_model.specs.Ticks.{begun_with}
-use Rattle.node_model.specs.Answers.{had_fate, receipt_by, receipts_of}
+use Rattle.node_model.specs.Answers.{had_fate, receipts_of}
 use Rattle.table_laws.specs.Alone.{alone}
-use Rattle.table_laws.specs.Tables.{TableNode, decree_by, moment_behind, receipts_by, reply_to, requested, chain_at, Entry, extended, known_as}
+use Rattle.table_laws.specs.Tables.{TableNode, chain_at, decree_by, known_as, moment_behind, receipts_by, receipts_with, reply_to, requested, tells}
 use Rattle.table_laws.specs.Resting.{IsResting, IsTaken, IsTakenIfAny}
 use Rattle.table_laws.specs.Settling.{SettlesOn}
-use Rattle.table_laws.proofs.Frames.{eqb_self, entry_here}
+use Rattle.table_laws.proofs.Frames.{eqb_self}
 use Rattle.table_laws.proofs.Carrying.{ballot, round_starts, start, tried}
-use Rattle.table_laws.proofs.Ending.{AllAnswered, round_ends, settles_after}
+use Rattle.table_laws.proofs.Ending.{AllAnswered, settles_after}
+use Rattle.table_laws.proofs.Tellings.{and_false}
+use Rattle.table_laws.proofs.Coming.{round_ends}
 use Rattle.table_laws.proofs.Calm.{IsCalm, arrived, calm_arrived, held_arrived, newcomer, noted, calm_but}
 use Rattle.table_laws.proofs.Leading.{few_enough}
 
@@ -123,23 +124,19 @@ module _ (first validity : ℕ) (k : Kept) (t : TableNode) (id : ℕ) (message :
   held_is = held_arrived k t request resting
 
   -- a message that is taken has no receipt
-  unreported : receipts_of 1 id (known_as old) chain ≡ []
-  unreported = by_tests (node_of id == 1) (not (had_fate (known_as old)))
-    where
-      by_tests : (mine new_fate : Bool) → cond (mine && new_fate) (receipt_by id chain (final_in chain) (taken_in chain)) [] ≡ []
-      by_tests true true = refl
-      by_tests true false = refl
-      by_tests false new_fate = refl
+  untold : tells old decree ≡ false
+  untold = and_false (not (had_fate (known_as old)))
 
-  abbrev Comes : List Decree → Type 0
-  Comes now =
-      SettlesOn setup (stepped setup k (Arrival request)) (requested t request) (reply_to t request ∷ []) (receipts_of 1 id (known_as old) now)
+  unreported : receipts_with t id old decree ≡ []
+  unreported =
+      ap (λ (test : Bool). receipts_of 1 t.incarnation id (known_as old) (if test then decree_by t chain Told ∷ chain else chain)) untold
+      ∙ ap (λ (test : Bool). if test then record { id = id; chain = chain } ∷ [] else []) (and_false (node_of id == 1))
 
   pub submit_settles : SettlesOn setup (stepped setup k (Arrival request)) (requested t request) (reply_to t request ∷ []) (receipts_by t request)
   submit_settles =
-      subst Comes (sym (ap (λ (e : Entry). e.chain) (entry_here t.table id (extended old decree))))
-      (settles_after setup _ _ (requested t request) (reply_to t request ∷ []) (receipts_of 1 id (known_as old) chain) begun_is refl refl
+      subst (SettlesOn setup (stepped setup k (Arrival request)) (requested t request) (reply_to t request ∷ [])) unreported
+      (settles_after setup _ _ (requested t request) (reply_to t request ∷ []) (receipts_with t id old decree) begun_is refl refl
       (inr (inl unreported))
-      (round_ends first validity k0 (noted t request) id decree (new ∷ []) (reply_to t request ∷ []) (calm_but id k0 (noted t request) calm)
+      (round_ends first validity k0 (noted t request) id old decree (new ∷ []) (reply_to t request ∷ []) (calm_but id k0 (noted t request) calm)
       (calm.message id).ready held_is taken answered)
       (few_enough (requested t request) (omega arith)))

@@ -10,12 +10,11 @@ use Rattle.node_model.specs.Kept.{Held, Kept, message_at, with_message}
 use Rattle.node_model.specs.Learner.{heard, makes_known}
 use Rattle.node_model.specs.Message.{Message, Round}
 use Rattle.node_model.specs.Outputs.{Stepped, leaves}
-use Rattle.node_model.specs.Packets.{answer_told, heard_in, if_member, is_member, is_own_name, known_then, on_ask, on_known, on_packet}
+use Rattle.node_model.specs.Packets.{answer_told, heard_in, if_member, is_member, is_own_name, known_then, on_ask, on_known, on_packet, start_known}
 use Rattle.node_model.specs.Packets.{on_prepare, on_promise, on_propose, on_refused, on_tell, on_voted, promised_in, settled_for}
 use Rattle.node_model.specs.Packets.{start_told, tell_held, tells_about, told_to, vote_concerns}
 use Rattle.node_model.specs.Proposer.{Prepared, Start, is_free, is_own_ballot, prepared_at, runs_at, started}
 use Rattle.node_model.specs.Requests.{held_at, id_of, settled_by, told_by, with_held}
-use Rattle.node_model.specs.Starts.{delete_for}
 use Rattle.node_model.specs.Stepped.{stepped}
 use Rattle.table_laws.specs.Settling.{Settling, delivered, first_delivered}
 
@@ -46,7 +45,7 @@ module _ (setup : Setup) (k : Kept) where
   voted_unmoved slot m vote =
       let known : Kept = record (with_message k slot.id (known_then m vote.chain)) { held = map (settled_for setup.nodes slot.id vote.chain) k.held } in
       either k (makes_known setup.nodes m vote) (on_known setup k slot.id m vote.chain) (leaves (with_message k slot.id m))
-      (started_unmoved setup known slot.id (delete_for setup known slot.id known.held (Some vote.chain))) refl
+      (started_unmoved setup known slot.id (start_known setup known slot.id m.known vote.chain)) refl
 
   answered_unmoved : (prepared : Prepared) (new : Held) (answer : Option Answer) → prepared.kept.clock ≡ k.clock → IsUnmoved k (answer_told prepared new answer)
   answered_unmoved prepared new None is = is

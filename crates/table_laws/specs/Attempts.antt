@@ -5,8 +5,7 @@ use Rattle.mc_model.specs.synod.Packet.{Slot, slot_at}
 use Rattle.mc_model.specs.node.Grant.{AlreadyGranted, GrantRefusal, NotChosen, NotMine, OlderIncarnation}
 use Rattle.mc_model.specs.node.Outcome.{Outcome, decree_of}
 use Rattle.mc_model.specs.node.Outputs.{Receipt}
-use Rattle.node_model.specs.Answers.{receipts_of}
-use Rattle.table_laws.specs.Tables.{TableNode, chain_at, decree_by, decreed, entry_at, known_as, with_entry}
+use Rattle.table_laws.specs.Tables.{TableNode, chain_at, decree_by, decreed, entry_at, receipts_with, with_entry}
 
 -- an attempt of the node in its incarnation is granted once
 abbrev pub attempt_refusal : TableNode → Bool → Decree → Option GrantRefusal
@@ -44,5 +43,4 @@ abbrev pub concluded_at : TableNode → ℕ → Outcome → TableNode
 concluded_at t id outcome = record t { table = decreed t id (decree_of outcome) }
 
 abbrev pub receipts_on : TableNode → ℕ → Outcome → List Receipt
-receipts_on t id outcome =
-    receipts_of 1 id (known_as (chain_at t.table id)) (decree_by t (chain_at t.table id) (decree_of outcome) ∷ chain_at t.table id)
+receipts_on t id outcome = receipts_with t id (chain_at t.table id) (decree_by t (chain_at t.table id) (decree_of outcome))

@@ -8,7 +8,7 @@ use Rattle.mc_model.specs.node.Setup.{Setup}
 use Rattle.node_model.specs.Kept.{Kept}
 use Rattle.node_model.specs.Stepped.{stepped}
 use Rattle.table_laws.specs.Tables.{MayCome, TableNode, chain_at, receipts_by, reply_to, requested}
-use Rattle.table_laws.specs.Ticks.{receipts_between, ticked}
+use Rattle.table_laws.specs.Ticks.{receipts_ticked, ticked}
 use Rattle.table_laws.specs.Attempts.{concluded_at, granted_at, newest_slot, receipts_on, refusal_at}
 use Rattle.table_laws.specs.Settling.{SettlesOn, begins_with, delivered}
 
@@ -56,7 +56,7 @@ replies_by t (Concludes id outcome) = []
 abbrev pub receipts_of_event : TableNode → Event → List Receipt
 receipts_of_event t (Requests request) = receipts_by t request
 receipts_of_event t (Refuses status) = []
-receipts_of_event t (Ticks moment up) = receipts_between t.table (ticked t moment up).table
+receipts_of_event t (Ticks moment up) = receipts_ticked t moment up
 receipts_of_event t (Grants id) = []
 receipts_of_event t (Concludes id outcome) = receipts_on t id outcome
 

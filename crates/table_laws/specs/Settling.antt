@@ -47,9 +47,9 @@ abbrev pub delivered : Setup → ℕ → Settling → Settling
 delivered setup zero s = s
 delivered setup (suc more) s = delivered setup more (first_delivered setup s s.packets)
 
--- a round takes four deliveries, and a question two
+-- a round takes four deliveries, that of a Told behind it four more, and a question two
 abbrev pub most_deliveries : TableNode → ℕ
-most_deliveries t = 6 + 4 * length t.table
+most_deliveries t = 10 + 8 * length t.table
 
 -- No reply comes behind a receipt: after each number of deliveries no receipt was given out yet, or all of these replies were.
 abbrev pub IsOrderly : Setup → Settling → List Reply → Type 0

@@ -1,19 +1,19 @@
 -- The table of a node by itself: the chain of each message, and what a request makes of it and is answered (own; SMPP 3.4, 4.4.2,
 -- 4.8.2 and 4.9.2).
-use Rattle.std.specs.Prelude.{◌≡◌, ℕ, suc, max, Bool, false, ◌&&◌, List, [], ◌∷◌, Option, Some, None, if◌then◌else◌}
+use Rattle.std.specs.Prelude.{◌≡◌, ℕ, suc, max, Bool, false, ◌==◌, ◌&&◌, not, List, [], ◌∷◌, Option, Some, None, if◌then◌else◌}
 use Rattle.std.specs.Option.{unwrap_or}
 use Rattle.std.specs.Ordering.{nat_cmp}
 use Rattle.std.specs.Map.{lookup}
 use Rattle.std.specs.BTreeMap.{insert_entry, is_at}
 use Rattle.mc_model.specs.message.Ids.{IsSerial, id_of}
 use Rattle.mc_model.specs.message.Submission.{Submission}
-use Rattle.mc_model.specs.message.Decree.{Decree, Deleted, Fate, Final, Kind, Taken}
-use Rattle.mc_model.specs.message.Chain.{final_in, taken_in}
+use Rattle.mc_model.specs.message.Decree.{Attempt, Decree, Deleted, Failed, Fate, Final, Kind, Taken, Told}
+use Rattle.mc_model.specs.message.Chain.{final_in, home_in, taken_in}
 use Rattle.mc_model.specs.node.Actor.{Cancel, Query, Request, Submit, id_in, opening_clock}
 use Rattle.mc_model.specs.node.Effect.{next_serial}
 use Rattle.mc_model.specs.node.Outputs.{Receipt, Reply}
 use Rattle.mc_model.specs.node.Replies.{Accepted, Answer, Kept, NotMatched, NotOwner, Removed, Shown, Unknown}
-use Rattle.node_model.specs.Answers.{is_match, is_owner, receipts_of}
+use Rattle.node_model.specs.Answers.{had_fate, is_asked, is_match, is_owner, receipts_of}
 use Rattle.node_model.specs.Starts.{is_idle}
 
 -- The decrees on a message, the newest first, and whether the newest is an attempt that was granted.
@@ -74,8 +74,35 @@ decree_by t chain kind = record {
 abbrev pub extended : List Decree → Decree → Entry
 extended chain decree = record { chain = decree ∷ chain; granted = false }
 
+-- node 1 took the message, and asked for a receipt on this final state
+abbrev pub is_to_tell : Submission → List Decree → Kind → Bool
+is_to_tell message chain (Taken taken) = false
+is_to_tell message chain (Attempt number) = false
+is_to_tell message chain (Failed error) = false
+is_to_tell message chain (Fate final error) = (1 == home_in chain) && is_asked final message
+is_to_tell message chain Told = false
+
+abbrev pub asks_told : List Decree → Kind → Option Submission → Bool
+asks_told chain kind None = false
+asks_told chain kind (Some message) = is_to_tell message chain kind
+
+-- a decree behind this chain is its first final state, and the receipt on it is to be told
+abbrev pub tells : List Decree → Decree → Bool
+tells old decree = not (had_fate (known_as old)) && asks_told (decree ∷ old) decree.kind (taken_in (decree ∷ old))
+
+-- it is told at once
+abbrev pub told_behind : TableNode → List Decree → Decree → List Decree
+told_behind t old decree = if tells old decree then decree_by t (decree ∷ old) Told ∷ decree ∷ old else decree ∷ old
+
+abbrev pub settled : TableNode → List Decree → Decree → Entry
+settled t old decree = record { chain = told_behind t old decree; granted = false }
+
 abbrev pub decreed : TableNode → ℕ → Kind → Table
-decreed t id kind = with_entry t.table id (extended (chain_at t.table id) (decree_by t (chain_at t.table id) kind))
+decreed t id kind = with_entry t.table id (settled t (chain_at t.table id) (decree_by t (chain_at t.table id) kind))
+
+-- by the Told that the node decreed, a receipt goes out
+abbrev pub receipts_with : TableNode → ℕ → List Decree → Decree → List Receipt
+receipts_with t id old decree = receipts_of 1 t.incarnation id (known_as old) (told_behind t old decree)
 
 -- ---- what a request is answered, by the chain then
 
@@ -136,15 +163,23 @@ MayCome t (Cancel id account source destination) = Unit {0}
 abbrev pub requested : TableNode → Request → TableNode
 requested t request = record t { serial = next_serial request t.serial; ticket = suc t.ticket; table = table_by t request }
 
--- it is answered by the table then
-abbrev pub reply_to : TableNode → Request → Reply
-reply_to t request = record {
-  ticket = t.ticket;
-  id = id_in request;
-  answer = answer_by request (chain_at (table_by t request) (id_in request));
-}
+-- it is answered by the chain of its message, and a cancel_sm that deletes it by the deletion
+abbrev pub chain_by : TableNode → Request → List Decree
+chain_by t (Submit id message) = chain_at t.table id
+chain_by t (Query id account source) = chain_at t.table id
+chain_by t (Cancel id account source destination) =
+    if is_deleted account source destination (chain_at t.table id)
+    then decree_by t (chain_at t.table id) (Fate Deleted 0) ∷ chain_at t.table id
+    else chain_at t.table id
 
--- a receipt is due on a final state that there was not before
+abbrev pub reply_to : TableNode → Request → Reply
+reply_to t request = record { ticket = t.ticket; id = id_in request; answer = answer_by request (chain_by t request) }
+
+-- a receipt goes out on a deletion of which one was asked
 abbrev pub receipts_by : TableNode → Request → List Receipt
-receipts_by t request =
-    receipts_of 1 (id_in request) (known_as (chain_at t.table (id_in request))) (chain_at (table_by t request) (id_in request))
+receipts_by t (Submit id message) = []
+receipts_by t (Query id account source) = []
+receipts_by t (Cancel id account source destination) =
+    if is_deleted account source destination (chain_at t.table id)
+    then receipts_with t id (chain_at t.table id) (decree_by t (chain_at t.table id) (Fate Deleted 0))
+    else []

@@ -1,5 +1,5 @@
 -- What a tick makes of the table of a node by itself: each message gets the decree that is due (own).
-use Rattle.std.specs.Prelude.{ℕ, ◌+◌, ◌*◌, max, Bool, ◌==◌, ◌&&◌, not, nat_le, nat_lt, List, [], ◌∷◌, flat_map, map, Option, Some, None, if◌then◌else◌}
+use Rattle.std.specs.Prelude.{ℕ, ◌+◌, ◌*◌, max, Bool, ◌==◌, ◌&&◌, not, nat_le, nat_lt, List, [], ◌∷◌, ◌++◌, flat_map, map, Option, Some, None, if◌then◌else◌}
 use Rattle.std.specs.Option.{option_or}
 use Rattle.std.specs.Map.{keys_of}
 use Rattle.mc_model.specs.message.Submission.{Submission}
@@ -9,7 +9,7 @@ use Rattle.mc_model.specs.message.Chain.{attempts_in, taken_in}
 use Rattle.mc_model.specs.node.Outcome.{no_session_error, older_incarnation_error}
 use Rattle.mc_model.specs.node.Outputs.{Receipt}
 use Rattle.node_model.specs.Answers.{receipts_of}
-use Rattle.table_laws.specs.Tables.{Entry, Table, TableNode, chain_at, decree_by, extended, known_as, moment_behind}
+use Rattle.table_laws.specs.Tables.{Entry, TableNode, chain_at, decree_by, entry_at, is_to_tell, known_as, moment_behind, settled, tells, told_behind}
 
 abbrev pub due_if : Bool → Kind → Option Kind
 due_if test kind = if test then Some kind else None
@@ -48,7 +48,7 @@ due_behind t granted up message newest older (Failed error) =
     option_or (expires message (moment_behind t.clock (newest ∷ older)))
     (option_or (gives_up (attempts_in (newest ∷ older)) error)
     (tries_again up message newest.moment (attempts_in (newest ∷ older)) (moment_behind t.clock (newest ∷ older))))
-due_behind t granted up message newest older (Fate final error) = None
+due_behind t granted up message newest older (Fate final error) = due_if (is_to_tell message (newest ∷ older) (Fate final error)) Told
 due_behind t granted up message newest older Told = None
 
 abbrev pub due_of : TableNode → (List ℕ → Bool) → Bool → List Decree → Option Submission → Option Kind
@@ -62,7 +62,7 @@ due t up entry = due_of t up entry.granted entry.chain (taken_in entry.chain)
 
 abbrev pub entry_with : TableNode → Entry → Option Kind → Entry
 entry_with t entry None = entry
-entry_with t entry (Some kind) = extended entry.chain (decree_by t entry.chain kind)
+entry_with t entry (Some kind) = settled t entry.chain (decree_by t entry.chain kind)
 
 abbrev pub entry_then : TableNode → (List ℕ → Bool) → Entry → Entry
 entry_then t up entry = entry_with t entry (due t up entry)
@@ -78,7 +78,24 @@ each_due t up = record t { table = map (λ entry. (entry.0, entry_then t up entr
 abbrev pub ticked : TableNode → ℕ → (List ℕ → Bool) → TableNode
 ticked t moment up = each_due (at_clock t moment) up
 
--- by ascending ids
-abbrev pub receipts_between : Table → Table → List Receipt
-receipts_between before now =
-    flat_map (λ id. receipts_of 1 id (known_as (chain_at before id)) (chain_at now id)) (keys_of before)
+-- of one that had only to be told
+abbrev pub receipts_at_once : TableNode → ℕ → List Decree → Option Kind → List Receipt
+receipts_at_once t id old None = []
+receipts_at_once t id old (Some kind) = receipts_of 1 t.incarnation id (known_as old) (decree_by t old kind ∷ old)
+
+-- of one that ended now
+abbrev pub receipts_behind : TableNode → ℕ → List Decree → Option Kind → List Receipt
+receipts_behind t id old None = []
+receipts_behind t id old (Some kind) =
+    if tells old (decree_by t old kind)
+    then receipts_of 1 t.incarnation id (known_as (decree_by t old kind ∷ old)) (told_behind t old (decree_by t old kind))
+    else []
+
+-- first those that had only to be told, then those that ended now, each by ascending ids
+abbrev pub receipts_due : TableNode → (List ℕ → Bool) → List Receipt
+receipts_due t up =
+    flat_map (λ id. receipts_at_once t id (chain_at t.table id) (due t up (entry_at t.table id))) (keys_of t.table)
+    ++ flat_map (λ id. receipts_behind t id (chain_at t.table id) (due t up (entry_at t.table id))) (keys_of t.table)
+
+abbrev pub receipts_ticked : TableNode → ℕ → (List ℕ → Bool) → List Receipt
+receipts_ticked t moment up = receipts_due (at_clock t moment) up
