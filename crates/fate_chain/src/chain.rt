@@ -4,7 +4,7 @@ ghost use Rattle.std.specs.Prelude.{◌≡◌, ◌<◌, ◌≤◌, ◌↔◌, �
 ghost use Rattle.mc_model.specs.message.Ids.{node_of, incarnation_of};
 ghost use Rattle.mc_model.specs.message.Decree.{Taken};
 ghost use Rattle.mc_model.specs.message.Submission.{Submission as SubmissionValue};
-ghost use Rattle.mc_model.specs.message.Chain.{Chain as ChainValue, IsPermitted, MayExtend, taken_in, attempts_in, final_by, final_in, error_in, untold};
+ghost use Rattle.mc_model.specs.message.Chain.{Chain as ChainValue, IsPermitted, MayExtend, taken_in, attempts_in, final_by, final_in, error_in, home_in, untold};
 ghost use Rattle.fate_chain.specs.Bytes.{chain_octets, read_chain, Fits, IsSpelled, Judges};
 ghost use Rattle.fate_chain.specs.Kinds.{final_of};
 ghost use Rattle.fate_chain.specs.Marks.{IsStandingOf};
@@ -21,7 +21,7 @@ use crate::shared_decrees::SharedDecrees;
 use crate::shared_submission::SharedSubmission;
 use crate::submission::Submission;
 use crate::writing::{put_chain_head, put_decrees};
-use mc_types::{Moment, MsgId};
+use mc_types::{Moment, MsgId, NodeNo};
 use pdu_tables::State;
 use std::alloc::{AllocError, Global};
 use std::marker::Model;
@@ -87,6 +87,14 @@ impl Chain {
         ensures { result ≡ self.now.id }
     {
         self.id
+    }
+
+    /// The node that took it, which its id names.
+    pub fn home(&self) -> NodeNo
+        ensures { result ≡ home_in self.now.decrees }
+    {
+        self.bounds();
+        self.id.node()
     }
 
     /// The place in which it stands: one less than the number of its decrees, 0 to 18.
