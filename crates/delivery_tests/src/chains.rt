@@ -94,6 +94,13 @@ pub fn undelivered() -> [Step; 17] {
     steps
 }
 
+/// The same, and an hour later the receipt on it is told.
+pub fn told_undelivered() -> [Step; 18] {
+    let mut steps = [Step::Told(5280); 18];
+    steps[..17].copy_from_slice(&undelivered());
+    steps
+}
+
 /// The codes of final states.
 pub const DELIVERED: u8 = 2;
 
@@ -122,6 +129,8 @@ pub const TOLD_DELIVERED: &[Step] = &[
 ];
 
 pub const TOLD_EXPIRED: &[Step] = &[Step::Fate(259200, EXPIRED, 0), Step::Told(262800)];
+
+pub const TOLD_DELETED: &[Step] = &[Step::Fate(0, DELETED, 0), Step::Told(3600)];
 
 pub const TOLD_REJECTED: &[Step] = &[
     Step::Attempt(0, 1),

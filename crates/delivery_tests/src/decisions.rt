@@ -80,6 +80,8 @@ enum Asked {
     Deletion(bool),
     /// What is due once the attempt is closed: the message was delivered.
     End,
+    /// Whether the receipt on the fate is told.
+    Telling,
 }
 
 /// What a node decides after these decrees, in this incarnation.
@@ -101,6 +103,7 @@ fn decided(
         }
         Asked::Deletion(cancelled) => here.deletion(&chain, cancelled),
         Asked::End => here.end(&chain, closing()),
+        Asked::Telling => here.telling(&chain),
     };
     drop(chain);
     decided
@@ -169,6 +172,33 @@ fn a_message_that_waits_is_deleted_before_it_is_attempted(rt: HostRuntime) {
     assert_decided(&rt, alloc, &[], &on_taken);
     assert_decided(&rt, alloc, &OPEN, &on_open);
     assert_decided(&rt, alloc, TOLD_DELIVERED, &on_open);
+}
+
+#[test]
+fn a_fate_of_which_a_receipt_is_asked_is_told_once(rt: HostRuntime) {
+    let alloc = rt.alloc();
+    let told = [
+        (
+            1,
+            Asked::Due(Done::Nothing, false, Up::Sme2),
+            Some(Due::Told),
+        ),
+        (
+            2,
+            Asked::Due(Done::Nothing, true, Up::Sme1),
+            Some(Due::Told),
+        ),
+        (1, Asked::Telling, Some(Due::Told)),
+    ];
+    let nothing = [
+        (1, Asked::Due(Done::Nothing, false, Up::Sme1), None),
+        (1, Asked::Telling, None),
+    ];
+    assert_decided(&rt, alloc, TO_EXPIRED, &told);
+    assert_decided(&rt, alloc, TO_DELETED, &told);
+    assert_decided(&rt, alloc, TOLD_EXPIRED, &nothing);
+    assert_decided(&rt, alloc, TOLD_DELETED, &nothing);
+    assert_decided(&rt, alloc, &[], &[(1, Asked::Telling, None)]);
 }
 
 /// How many seconds after the message was taken something is due after these decrees, for node 1 in this incarnation; none if it is now.

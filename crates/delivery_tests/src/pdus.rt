@@ -77,19 +77,24 @@ fn what_is_no_attempt_is_not_delivered(rt: HostRuntime) {
 #[test]
 fn a_receipt_of_each_final_state_goes_back(rt: HostRuntime) {
     let alloc = rt.alloc();
-    assert_receipt(&rt, alloc, TO_DELIVERED, DELIVERED_RECEIPT);
-    assert_receipt(&rt, alloc, TO_EXPIRED, EXPIRED_RECEIPT);
-    assert_receipt(&rt, alloc, TO_DELETED, DELETED_RECEIPT);
-    assert_receipt(&rt, alloc, &undelivered(), UNDELIVERABLE_RECEIPT);
-    assert_receipt(&rt, alloc, TO_REJECTED, REJECTED_RECEIPT);
+    assert_receipt(&rt, alloc, TOLD_DELIVERED, DELIVERED_RECEIPT);
+    assert_receipt(&rt, alloc, TOLD_EXPIRED, EXPIRED_RECEIPT);
+    assert_receipt(&rt, alloc, TOLD_DELETED, DELETED_RECEIPT);
+    assert_receipt(&rt, alloc, &told_undelivered(), UNDELIVERABLE_RECEIPT);
+    assert_receipt(&rt, alloc, TOLD_REJECTED, REJECTED_RECEIPT);
 }
 
 #[test]
-fn a_receipt_that_is_told_is_that_of_its_fate(rt: HostRuntime) {
+fn there_is_no_receipt_until_it_is_told(rt: HostRuntime) {
     let alloc = rt.alloc();
-    assert_receipt(&rt, alloc, TOLD_DELIVERED, DELIVERED_RECEIPT);
-    assert_receipt(&rt, alloc, TOLD_EXPIRED, EXPIRED_RECEIPT);
-    assert_receipt(&rt, alloc, TOLD_REJECTED, REJECTED_RECEIPT);
+    let refused = [
+        receipt_refused(&rt, alloc, 1, TO_DELIVERED),
+        receipt_refused(&rt, alloc, 1, TO_EXPIRED),
+        receipt_refused(&rt, alloc, 2, TO_DELETED),
+        receipt_refused(&rt, alloc, 2, &undelivered()),
+        receipt_refused(&rt, alloc, 2, TO_REJECTED),
+    ];
+    assert_same(&rt, &refused, &[Some(ReceiptFault::NotTold); 5]);
 }
 
 #[test]

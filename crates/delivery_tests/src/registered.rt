@@ -10,16 +10,16 @@ use receipts::{ReceiptFault, receipt_text};
 use std::alloc::Global;
 use std::process::Abort;
 
-/// Whether a receipt was asked for of the state in which these decrees end.
+/// Whether a receipt was asked for of the state in which these decrees end, behind which no Told stands.
 fn is_asked(rt: &impl Abort, alloc: Global, registered_delivery: u8, steps: &[Step]) -> bool {
     let chain = chain(rt, alloc, registered_delivery, steps);
     let mut text = Vec::new(alloc);
     let told = receipt_text(&chain, &mut text);
     drop(chain);
     match told {
-        Ok(()) => true,
+        Err(ReceiptFault::NotTold) => true,
         Err(ReceiptFault::NotAsked) => false,
-        Err(fault) => panic!(rt; "{fault:?}"),
+        other => panic!(rt; "{other:?}"),
     }
 }
 

@@ -78,11 +78,12 @@ fn assert_delivery(rt: &impl Abort, alloc: Global, submit: &[u8], wanted: &[u8])
     assert_octets(rt, alloc, pdu.expect(rt, "a deliver_sm"), wanted);
 }
 
-/// That this is the text of the receipt, once the message is delivered.
+/// That this is the text of the receipt, once the message is delivered and told.
 fn assert_receipt(rt: &impl Abort, alloc: Global, submit: &[u8], wanted: &[u8]) {
     let attempted = attempted(rt, alloc, submit);
     let fate = Kind::Fate(Final::Delivered, ErrorCode::of(0));
-    let chain = decided(rt, attempted, fate);
+    let ended = decided(rt, attempted, fate);
+    let chain = decided(rt, ended, Kind::Told);
     let mut text = Vec::new(alloc);
     let told = receipt_text(&chain, &mut text);
     drop(chain);

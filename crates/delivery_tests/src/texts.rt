@@ -32,7 +32,7 @@ fn a_message_expires(rt: HostRuntime) {
         &rt,
         rt.alloc(),
         2,
-        TO_EXPIRED,
+        TOLD_EXPIRED,
         b"before id:1000100001 sub:001 dlvrd:000 submit date:2401310000 done date:2402030000 stat:EXPIRED err:000 text:Hi",
     );
 }
@@ -43,7 +43,7 @@ fn eight_attempts_fail(rt: HostRuntime) {
         &rt,
         rt.alloc(),
         1,
-        &undelivered(),
+        &told_undelivered(),
         b"before id:1000100001 sub:001 dlvrd:000 submit date:2401310000 done date:2401310028 stat:UNDELIV err:100 text:Hi",
     );
 }
@@ -54,7 +54,7 @@ fn a_message_is_rejected(rt: HostRuntime) {
         &rt,
         rt.alloc(),
         1,
-        TO_REJECTED,
+        TOLD_REJECTED,
         b"before id:1000100001 sub:001 dlvrd:000 submit date:2401310000 done date:2401310000 stat:REJECTD err:102 text:Hi",
     );
 }
@@ -65,7 +65,7 @@ fn a_message_is_deleted(rt: HostRuntime) {
         &rt,
         rt.alloc(),
         1,
-        TO_DELETED,
+        TOLD_DELETED,
         b"before id:1000100001 sub:001 dlvrd:000 submit date:2401310000 done date:2401310000 stat:DELETED err:000 text:Hi",
     );
 }
@@ -101,9 +101,9 @@ fn assert_pattern(rt: &impl Abort, alloc: Global, row: u8, steps: &[Step]) {
 #[test]
 fn each_text_has_the_pattern_of_appendix_b(rt: HostRuntime) {
     let alloc = rt.alloc();
-    assert_pattern(&rt, alloc, 0, TO_DELIVERED);
-    assert_pattern(&rt, alloc, 1, TO_EXPIRED);
-    assert_pattern(&rt, alloc, 2, TO_DELETED);
-    assert_pattern(&rt, alloc, 3, &undelivered());
-    assert_pattern(&rt, alloc, 4, TO_REJECTED);
+    assert_pattern(&rt, alloc, 0, TOLD_DELIVERED);
+    assert_pattern(&rt, alloc, 1, TOLD_EXPIRED);
+    assert_pattern(&rt, alloc, 2, TOLD_DELETED);
+    assert_pattern(&rt, alloc, 3, &told_undelivered());
+    assert_pattern(&rt, alloc, 4, TOLD_REJECTED);
 }

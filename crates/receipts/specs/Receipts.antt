@@ -2,7 +2,7 @@
 use Rattle.std.specs.Prelude.{◌≡◌, ℕ, List, [], ◌∷◌, ◌++◌, slice_get, reverse, Some}
 use Rattle.std.specs.Fmt.{decimal}
 use Rattle.mc_model.specs.message.Chain.{Chain, final_in, taken_in, untold}
-use Rattle.mc_model.specs.message.Decree.{Decree, Fate, Final}
+use Rattle.mc_model.specs.message.Decree.{Decree, Fate, Final, Told}
 use Rattle.mc_model.specs.message.Submission.{Address as Party, Submission}
 use Rattle.mc_model.specs.message.Receipts.{AsksReceipt}
 use Rattle.fate_chain.specs.States.{final_code}
@@ -36,11 +36,17 @@ pub record IsAsked (decrees : List Decree) : Type 0 where
   pub message : taken_in decrees ≡ Some taken
   pub asks : AsksReceipt final taken
 
+-- the chain ends in a Told
+abbrev pub IsTold : List Decree → Type 0
+IsTold [] = ⊥
+IsTold (newest ∷ older) = newest.kind ≡ Told
+
 -- behind what was there stands what a chain reports of which a receipt was asked
 pub record AppendsReceipt (chain : Chain) (before after : List ℕ) : Type 0 where
   pub report : Report
   pub reports : Reports chain report
   pub asked : AsksReceipt report.final report.taken
+  pub told : IsTold chain.decrees
   pub text_is : after ≡ before ++ receipt_text report
 
 abbrev pub on_wire : Party → Address
@@ -80,4 +86,5 @@ pub record IsReceipt (chain : Chain) (sequence : ℕ) (pdu : Pdu) : Type 0 where
   pub report : Report
   pub reports : Reports chain report
   pub asked : AsksReceipt report.final report.taken
+  pub told : IsTold chain.decrees
   pub pdu_is : pdu ≡ receipt_of sequence report

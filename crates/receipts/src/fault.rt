@@ -12,6 +12,8 @@ pub enum ReceiptFault {
     NoFate,
     /// 2: the submit_sm asked for no receipt of that state.
     NotAsked,
+    /// 3: no Told stands behind it.
+    NotTold,
     /// There was no memory for it.
     Memory,
 }

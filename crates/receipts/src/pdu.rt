@@ -1,9 +1,9 @@
 //! The deliver_sm of a receipt.
 
 ghost use Rattle.std.specs.Prelude.{◌≡◌, ◌++◌, ◌∷◌, [], ◌↔◌, IfOk, IsErrOf};
-ghost use Rattle.receipts.specs.Receipts.{HasFate, IsAsked, IsReceipt, receipt_message, receipt_tlvs};
+ghost use Rattle.receipts.specs.Receipts.{HasFate, IsAsked, IsTold, IsReceipt, receipt_message, receipt_tlvs};
 ghost use Rattle.receipts.specs.Told.{report_of};
-ghost use Rattle.receipts.specs.declared.fault.ReceiptFault.TheVariants.{NoFate, NotAsked};
+ghost use Rattle.receipts.specs.declared.fault.ReceiptFault.TheVariants.{NoFate, NotAsked, NotTold};
 
 use crate::fault::ReceiptFault;
 use crate::report::Report;
@@ -17,11 +17,12 @@ use std::alloc::{AllocError, Global};
 const RECEIPT: u8 = 0x04;
 
 /// The deliver_sm (SMPP 3.4, section 4.6.1) of the receipt of a chain, with this sequence_number: back to the source of the message, with
-/// its id and final state as optional parameters too. NoFate and NotAsked as for its text, before any memory is taken.
+/// its id and final state as optional parameters too. NoFate, NotAsked and NotTold as for its text, before any memory is taken.
 pub fn receipt_pdu(alloc: Global, chain: &Chain, sequence: u32) -> Result<Pdu, ReceiptFault>
     ensures pdu { IfOk result (IsReceipt chain.now sequence) }
     ensures no_fate { IsErrOf result NoFate ↔ (HasFate chain.now.decrees → ⊥) }
     ensures not_asked { IsErrOf result NotAsked ↔ HasFate chain.now.decrees × (IsAsked chain.now.decrees → ⊥) }
+    ensures not_told { IsErrOf result NotTold ↔ IsAsked chain.now.decrees × (IsTold chain.now.decrees → ⊥) }
 {
     let report = match Report::of(chain) {
         Ok(report) => report,

@@ -2,11 +2,11 @@
 
 ghost use Rattle.std.specs.Prelude.{◌≡◌, ◌≤◌, ◌↔◌, ◌+◌, ◌++◌, length, IfOk, IsErrOf, OnErr, OnOk};
 ghost use Rattle.fate_chain.specs.Kinds.{final_of};
-ghost use Rattle.receipts.specs.Receipts.{AppendsReceipt, HasFate, IsAsked};
+ghost use Rattle.receipts.specs.Receipts.{AppendsReceipt, HasFate, IsAsked, IsTold};
 ghost use Rattle.receipts.specs.Texts.{dates_part, delivered_count, fate_part, first_text, message_part, stat, text_part, three_digits};
 ghost use Rattle.receipts.specs.Texts.{receipt_text as text_told};
 ghost use Rattle.receipts.specs.Told.{report_of};
-ghost use Rattle.receipts.specs.declared.fault.ReceiptFault.TheVariants.{NoFate, NotAsked};
+ghost use Rattle.receipts.specs.declared.fault.ReceiptFault.TheVariants.{NoFate, NotAsked, NotTold};
 
 use crate::fault::ReceiptFault;
 use crate::report::Report;
@@ -19,13 +19,14 @@ const LONGEST: usize = 122;
 /// How many octets of the message a receipt shows.
 const SHOWN: usize = 20;
 
-/// Appends the text of the receipt (SMPP 3.4, appendix B) of a chain that ends in a final state, at most 122 octets. NoFate exactly if
-/// it has no final state, else NotAsked exactly if no receipt of that was asked for; both before any memory is taken. At an `Err` the
-/// vector is as it was.
+/// Appends the text of the receipt (SMPP 3.4, appendix B) of a chain that ends in a final state and its Told, at most 122 octets. NoFate exactly
+/// if it has no final state, else NotAsked exactly if no receipt of that was asked for, else NotTold exactly if it does not end in a Told; all before
+/// any memory is taken. At an `Err` the vector is as it was.
 pub fn receipt_text(chain: &Chain, text: &mut Vec<u8>) -> Result<(), ReceiptFault>
     ensures text { OnOk result (AppendsReceipt chain.now text.old.items text.new.items) }
     ensures no_fate { IsErrOf result NoFate ↔ (HasFate chain.now.decrees → ⊥) }
     ensures not_asked { IsErrOf result NotAsked ↔ HasFate chain.now.decrees × (IsAsked chain.now.decrees → ⊥) }
+    ensures not_told { IsErrOf result NotTold ↔ IsAsked chain.now.decrees × (IsTold chain.now.decrees → ⊥) }
     ensures err { OnErr result (text.new.items ≡ text.old.items) }
 {
     let report = match Report::of(chain) {
