@@ -7,11 +7,12 @@ use Rattle.std.proofs.lemmas.Bool.Decides.{nat_tests}
 use Rattle.mc_model.specs.message.Submission.{Submission}
 use Rattle.mc_model.specs.message.Decree.{Attempt, Decree, Expired, Failed, Fate, Kind, Taken, Told}
 use Rattle.mc_model.specs.message.Neighbours.{most_attempts, retry_delay}
-use Rattle.mc_model.specs.message.Chain.{attempts_in, taken_in}
-use Rattle.mc_model.specs.node.FirstRule.{Close, Delete, Expire, GiveUp, Lose, Try, Undeliver}
+use Rattle.mc_model.specs.message.Chain.{attempts_in, home_in, taken_in}
+use Rattle.mc_model.specs.node.FirstRule.{Announce, Close, Delete, Expire, GiveUp, Lose, Try, Undeliver}
 use Rattle.mc_model.specs.node.Outcome.{Outcome}
 use Rattle.node_model.specs.Proposer.{Start}
-use Rattle.node_model.specs.Starts.{is_idle, moment_behind, start_behind}
+use Rattle.node_model.specs.Answers.{is_asked}
+use Rattle.node_model.specs.Starts.{announced, is_idle, moment_behind, start_behind}
 use Rattle.node_model.specs.Rules.{Fitting, attempt_rule, fitting, if_so, is_attempt_by, tried, undelivered}
 use Rattle.fate_chain.specs.declared.decree.Author.{Author}
 use Rattle.tick_rules.specs.declared.attempted.Attempted.{Attempted}
@@ -65,7 +66,8 @@ module _ (s : Standpoint) (a : Attempted) (taken : Submission) (newest : Decree)
       (option_or (fitting Expire (if is_idle kind && nat_le taken.expiry (moment_behind (kept_of t) newest) then Some
       (start_behind (setup_of t) (kept_of t) newest older (Fate Expired 0)) else None))
       (option_or (fitting Undeliver (undelivered (setup_of t) (kept_of t) newest older kind))
-      (fitting Try (if_so up (tried (setup_of t) (kept_of t) taken newest older kind)))))
+      (option_or (fitting Try (if_so up (tried (setup_of t) (kept_of t) taken newest older kind)))
+      (fitting Announce (announced (setup_of t) (kept_of t) taken newest older kind)))))
 
   taken_still : (of : Submission) (up e d : Bool) → nat_le taken.expiry at_first ≡ e → nat_le taken.schedule at_first ≡ d → answer first up (Taken of) ≡ None →
       s.clock < waits_until up taken newest older (Taken of) → answer s up (Taken of) ≡ None
@@ -104,18 +106,28 @@ module _ (s : Standpoint) (a : Attempted) (taken : Submission) (newest : Decree)
       let waits : nat_le next now ≡ false = grind (arith, nat_tests) in
       rw (lasts, most, more, before, waits) refl
 
-  nothing_tried : (up : Bool) → fitting Try (if_so up None) ≡ None
-  nothing_tried true = refl
-  nothing_tried false = refl
+  nothing_tried : (up : Bool) (tells : Option Fitting) → tells ≡ None → option_or (fitting Try (if_so up None)) tells ≡ None
+  nothing_tried true tells none = none
+  nothing_tried false tells none = none
+
+  -- whether the receipt is to be told does not depend on the clock
+  told_still : (up owes : Bool) (start start_then : Start) →
+      option_or (fitting Try (if_so up None)) (fitting Announce (if owes then Some start else None)) ≡ None →
+      option_or (fitting Try (if_so up None)) (fitting Announce (if owes then Some start_then else None)) ≡ None
+  told_still true true start start_then none = absurd (cc)
+  told_still false true start start_then none = absurd (cc)
+  told_still true false start start_then none = refl
+  told_still false false start start_then none = refl
 
   answer_still : (up : Bool) (kind : Kind) → answer first up kind ≡ None → s.clock < waits_until up taken newest older kind → answer s up kind ≡ None
   answer_still up (Taken of) none below = taken_still of up (nat_le taken.expiry at_first) (nat_le taken.schedule at_first) refl refl none below
-  answer_still up (Attempt number) none below = nothing_tried up
+  answer_still up (Attempt number) none below = nothing_tried up None refl
   answer_still up (Failed error) none below =
       failed_still error up (nat_le taken.expiry at_first) (attempts == most_attempts) (nat_lt attempts most_attempts) (nat_le next at_first)
       refl refl refl refl none below
-  answer_still up (Fate final error) none below = nothing_tried up
-  answer_still up Told none below = nothing_tried up
+  answer_still up (Fate final error) none below =
+      told_still up ((s.author.node == home_in (newest ∷ older)) && is_asked final taken) _ _ none
+  answer_still up Told none below = nothing_tried up None refl
 
   own_still : (up : List ℕ → Bool) → own_rule first a false up newest older taken ≡ None →
       s.clock < waits_until (up taken.target) taken newest older newest.kind → own_rule s a false up newest older taken ≡ None

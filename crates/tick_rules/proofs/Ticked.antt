@@ -6,9 +6,9 @@ use Rattle.mc_model.specs.message.Chain.{taken_in}
 use Rattle.mc_model.specs.node.Setup.{Setup}
 use Rattle.std.specs.Prelude.{if◌then◌else◌}
 use Rattle.std.specs.Option.{option_or}
-use Rattle.mc_model.specs.node.FirstRule.{Delete, Expire, Try, Undeliver}
+use Rattle.mc_model.specs.node.FirstRule.{Announce, Delete, Expire, Try, Undeliver}
 use Rattle.node_model.specs.Kept.{Kept, message_at}
-use Rattle.node_model.specs.Starts.{delete_of}
+use Rattle.node_model.specs.Starts.{announced, delete_of}
 use Rattle.node_model.specs.Rules as model
 use Rattle.node_model.specs.Rules.{attempt_rule, expiring, fitting, if_so, is_attempt_by, known_rule, tried, undelivered}
 use Rattle.tick_rules.specs.declared.attempted.Attempted.{Attempted}
@@ -30,6 +30,7 @@ rule_seen setup k up id newest older taken s a cancelled message seen =
     else option_or (fitting Delete (delete_of setup k id k.held newest older of))
     (option_or (fitting Expire (expiring setup k taken newest older))
     (option_or (fitting Undeliver (undelivered setup k newest older newest.kind))
-    (fitting Try (if_so u (tried setup k taken newest older newest.kind))))))
+    (option_or (fitting Try (if_so u (tried setup k taken newest older newest.kind)))
+    (fitting Announce (announced setup k taken newest older newest.kind))))))
     message
     ∙ rw (seen.node, seen.incarnation, seen.clock, seen.granted, seen.closed, seen.asked) refl)

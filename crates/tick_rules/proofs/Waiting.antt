@@ -11,16 +11,17 @@ use Rattle.mc_model.specs.message.Neighbours.{MayFollow, most_attempts, retry_de
 use Rattle.mc_model.specs.message.Chain.{MayExtend, attempts_in, error_by, error_in, home_in, taken_in}
 use Rattle.mc_model.specs.node.FirstRule.{Expire, Try, Undeliver}
 use Rattle.node_model.specs.Starts.{is_idle, moment_behind, start_behind}
-use Rattle.node_model.specs.Rules.{Fitting, fitting, if_so, is_attempt_by, tried, undelivered}
+use Rattle.node_model.specs.Rules.{Fitting, expiring, fitting, if_so, is_attempt_by, tried, undelivered}
 use Rattle.node_model.proofs.Decisions.{nat_le_decides}
 use Rattle.fate_chain.specs.Kinds.{author_of}
 use Rattle.delivery.specs.Due.{IsDue, IsIdleKind, MayBeDue, kind_due}
 use Rattle.delivery.specs.declared.due_decree.DueDecree.{DueDecree}
 use Rattle.delivery.specs.declared.due_decree.DueDecree.TheVariants as decrees
+use Rattle.tick_rules.specs.declared.due.Due.{Due}
 use Rattle.tick_rules.specs.declared.due.Due.TheVariants as dues
 use Rattle.tick_rules.specs.declared.standpoint.Standpoint.{Standpoint}
 use Rattle.tick_rules.specs.declared.attempted.Attempted.{Attempted}
-use Rattle.tick_rules.specs.Dues.{IsDueBehind, MayBeDue as IsPossible, decree_for, fitting_for, own_rule}
+use Rattle.tick_rules.specs.Dues.{IsDueBehind, IsTelling, MayBeDue as IsPossible, decree_for, fitting_for, own_rule, telling_rule}
 use Rattle.tick_rules.specs.Standpoints.{kept_of, setup_of}
 
 nothing_either : (holds : Bool) → if_so holds None ≡ None
@@ -185,29 +186,59 @@ module _ (s : Standpoint) (taken : Submission) (newest : Decree) (older : List D
 
 -- ---- behind a chain that does not end in an attempt of the node, and whose message is not to be deleted
 
+or_last : (expires fails tries tells : Option Fitting) →
+    option_or (option_or expires (option_or fails tries)) tells ≡ option_or expires (option_or fails (option_or tries tells))
+or_last (Some fit) fails tries tells = refl
+or_last None (Some fit) tries tells = refl
+or_last None None tries tells = refl
+
 idle_here : (s : Standpoint) (a : Attempted) (cancelled : Bool) (up : List ℕ → Bool) (newest : Decree) (older : List Decree) (taken : Submission) →
     taken_in (newest ∷ older) ≡ Some taken → is_attempt_by s.author.node newest newest.kind ≡ false → (is_idle newest.kind && cancelled) ≡ false →
     (due : Option DueDecree) → IsDue (newest ∷ older) (moment_behind (kept_of s) newest) (up taken.target) due →
-    option_map (fitting_for s newest older) (option_map (λ (d : DueDecree). dues.Decree d) due) ≡ own_rule s a cancelled up newest older taken
-idle_here s a cancelled up newest older taken message other kept None is =
-    rw (other, kept) (due_is s taken newest older message (up taken.target) newest.kind refl None is)
-idle_here s a cancelled up newest older taken message other kept (Some due) is =
-    rw (other, kept) (due_is s taken newest older message (up taken.target) newest.kind refl (Some due) is)
+    option_or (option_map (λ (d : DueDecree). fitting_for s newest older (dues.Decree d)) due) (telling_rule s taken newest older)
+    ≡ own_rule s a cancelled up newest older taken
+idle_here s a cancelled up newest older taken message other kept due is =
+    rw (other, kept)
+    (ap (λ (fit : Option Fitting). option_or fit (telling_rule s taken newest older))
+    (due_is s taken newest older message (up taken.target) newest.kind refl due is)
+    ∙ or_last (fitting Expire (expiring (setup_of s) (kept_of s) taken newest older))
+    (fitting Undeliver (undelivered (setup_of s) (kept_of s) newest older newest.kind))
+    (fitting Try (if_so (up taken.target) (tried (setup_of s) (kept_of s) taken newest older newest.kind))) (telling_rule s taken newest older))
 
-pub idle_is_due : (s : Standpoint) (a : Attempted) (cancelled : Bool) (up : List ℕ → Bool) (decrees : List Decree) (newest : Decree) (taken : Submission) →
-    slice_get decrees 0 ≡ Some newest → taken_in decrees ≡ Some taken → is_attempt_by s.author.node newest newest.kind ≡ false →
-    (is_idle newest.kind && cancelled) ≡ false → (due : Option DueDecree) → IsDue decrees (moment_behind (kept_of s) newest) (up taken.target) due →
-    IsDueBehind s a cancelled up decrees (option_map (λ (d : DueDecree). dues.Decree d) due)
-idle_is_due s a cancelled up [] newest taken head message other kept due is = let none : None ≡ Some newest = head in absurd (cc)
-idle_is_due s a cancelled up (first ∷ older) newest taken head message other kept due is = λ of same.
+-- of its first decree, and of what was taken by it
+idle_first : (s : Standpoint) (a : Attempted) (cancelled : Bool) (up : List ℕ → Bool) (first : Decree) (older : List Decree) (newest : Decree)
+    (taken : Submission) → slice_get (first ∷ older) 0 ≡ Some newest → taken_in (first ∷ older) ≡ Some taken →
+    is_attempt_by s.author.node newest newest.kind ≡ false → (is_idle newest.kind && cancelled) ≡ false →
+    (due : Option DueDecree) → IsDue (first ∷ older) (moment_behind (kept_of s) newest) (up taken.target) due →
+    (of : Submission) → taken_in (first ∷ older) ≡ Some of →
+    option_or (option_map (λ (d : DueDecree). fitting_for s first older (dues.Decree d)) due) (telling_rule s of first older)
+    ≡ own_rule s a cancelled up first older of
+idle_first s a cancelled up first older newest taken head message other kept due is of same =
     let one : newest ≡ first = let heads : Some first ≡ Some newest = head in cc in
     let messages : taken ≡ of = cc in
-    subst (λ (t : Submission). option_map (fitting_for s first older)
-    (option_map (λ (d : DueDecree). dues.Decree d) due) ≡ own_rule s a cancelled up first older t) messages
-    (idle_here s a cancelled up first older taken message
+    idle_here s a cancelled up first older of same
     (subst (λ (n : Decree). is_attempt_by s.author.node n n.kind ≡ false) one other)
     (subst (λ (n : Decree). (is_idle n.kind && cancelled) ≡ false) one kept) due
+    (subst (λ (t : Submission). IsDue (first ∷ older) (moment_behind (kept_of s) first) (up t.target) due) messages
     (subst (λ (n : Decree). IsDue (first ∷ older) (moment_behind (kept_of s) n) (up taken.target) due) one is))
+
+-- a decree is due
+pub decree_is_due : (s : Standpoint) (a : Attempted) (cancelled : Bool) (up : List ℕ → Bool) (decrees : List Decree) (newest : Decree) (taken : Submission) →
+    slice_get decrees 0 ≡ Some newest → taken_in decrees ≡ Some taken → is_attempt_by s.author.node newest newest.kind ≡ false →
+    (is_idle newest.kind && cancelled) ≡ false → (due : DueDecree) → IsDue decrees (moment_behind (kept_of s) newest) (up taken.target) (Some due) →
+    IsDueBehind s a cancelled up decrees (Some (dues.Decree due))
+decree_is_due s a cancelled up [] newest taken head message other kept due is = let none : None ≡ Some newest = head in absurd (cc)
+decree_is_due s a cancelled up (first ∷ older) newest taken head message other kept due is = λ of same.
+    idle_first s a cancelled up first older newest taken head message other kept (Some due) is of same
+
+-- none is due, but maybe that the receipt is told
+pub telling_is_due : (s : Standpoint) (a : Attempted) (cancelled : Bool) (up : List ℕ → Bool) (decrees : List Decree) (newest : Decree) (taken : Submission) →
+    slice_get decrees 0 ≡ Some newest → taken_in decrees ≡ Some taken → is_attempt_by s.author.node newest newest.kind ≡ false →
+    (is_idle newest.kind && cancelled) ≡ false → IsDue decrees (moment_behind (kept_of s) newest) (up taken.target) None →
+    (told : Option Due) → IsTelling s decrees told → IsDueBehind s a cancelled up decrees told
+telling_is_due s a cancelled up [] newest taken head message other kept is told telling = let none : None ≡ Some newest = head in absurd (cc)
+telling_is_due s a cancelled up (first ∷ older) newest taken head message other kept is told telling = λ of same.
+    telling of same ∙ idle_first s a cancelled up first older newest taken head message other kept None is of same
 
 -- and its decree may follow
 pub idle_may : (s : Standpoint) (decrees : List Decree) (newest : Decree) (up : Bool) (due : DueDecree) →

@@ -2,13 +2,13 @@
 use Rattle.std.specs.Prelude.{◌≡◌, ℕ, Bool, ◌==◌, ◌&&◌, List, [], ◌∷◌, Option, Some, None, if◌then◌else◌}
 use Rattle.std.specs.Option.{option_map, option_or}
 use Rattle.mc_model.specs.message.Submission.{Submission}
-use Rattle.mc_model.specs.message.Decree.{Decree, Deleted, Failed, Fate, Kind}
+use Rattle.mc_model.specs.message.Decree.{Decree, Deleted, Failed, Fate, Kind, Told}
 use Rattle.mc_model.specs.message.Neighbours.{MayFollow}
 use Rattle.mc_model.specs.message.Chain.{MayExtend, error_in, taken_in}
-use Rattle.mc_model.specs.node.FirstRule.{Close, Delete, Expire, GiveUp, Lose, Rule, Try, Undeliver}
+use Rattle.mc_model.specs.node.FirstRule.{Announce, Close, Delete, Expire, GiveUp, Lose, Rule, Try, Undeliver}
 use Rattle.mc_model.specs.node.Outcome.{decree_of, no_session_error, older_incarnation_error}
 use Rattle.node_model.specs.Proposer.{Start}
-use Rattle.node_model.specs.Starts.{is_idle, moment_behind, start_behind}
+use Rattle.node_model.specs.Starts.{announced, is_idle, moment_behind, start_behind}
 use Rattle.node_model.specs.Rules.{Fitting, attempt_rule, expiring, fitting, if_so, is_attempt_by, tried, undelivered}
 use Rattle.fate_chain.specs.Kinds.{author_of}
 use Rattle.delivery.specs.Due.{kind_due as kind_of_decree}
@@ -34,6 +34,7 @@ rule_of (dues.Close closing) = Close
 rule_of dues.Lose = Lose
 rule_of dues.GiveUp = GiveUp
 rule_of dues.Delete = Delete
+rule_of dues.Told = Announce
 rule_of (dues.Decree due) = rule_by due
 
 -- what its decree decides, by the error of the last failure
@@ -42,6 +43,7 @@ kind_due error (dues.Close closing) = decree_of (closed_as closing)
 kind_due error dues.Lose = Failed older_incarnation_error
 kind_due error dues.GiveUp = Failed no_session_error
 kind_due error dues.Delete = Fate Deleted 0
+kind_due error dues.Told = Told
 kind_due error (dues.Decree due) = kind_of_decree error due
 
 abbrev pub start_for : Standpoint → Decree → List Decree → Due → Start
@@ -52,13 +54,18 @@ fitting_for s newest older due = record { rule = rule_of due; start = start_for 
 
 -- ---- which rule fits
 
--- of a message that waits
+-- its receipt is to be told
+abbrev pub telling_rule : Standpoint → Submission → Decree → List Decree → Option Fitting
+telling_rule s taken newest older = fitting Announce (announced (setup_of s) (kept_of s) taken newest older newest.kind)
+
+-- of a message that waits, or whose fate is known
 abbrev pub idle_rule : Standpoint → Bool → Bool → Submission → Decree → List Decree → Option Fitting
 idle_rule s cancelled up taken newest older =
     option_or (fitting Delete (if_so (is_idle newest.kind && cancelled) (Some (start_for s newest older dues.Delete))))
     (option_or (fitting Expire (expiring (setup_of s) (kept_of s) taken newest older))
     (option_or (fitting Undeliver (undelivered (setup_of s) (kept_of s) newest older newest.kind))
-    (fitting Try (if_so up (tried (setup_of s) (kept_of s) taken newest older newest.kind)))))
+    (option_or (fitting Try (if_so up (tried (setup_of s) (kept_of s) taken newest older newest.kind)))
+    (telling_rule s taken newest older))))
 
 -- of any message
 abbrev pub own_rule : Standpoint → Attempted → Bool → (List ℕ → Bool) → Decree → List Decree → Submission → Option Fitting
@@ -77,6 +84,12 @@ IsDueBehind s a cancelled up (newest ∷ older) due = (taken : Submission) → t
 abbrev pub IsDeletion : Standpoint → Bool → List Decree → Option Due → Type 0
 IsDeletion s cancelled [] due = ⊥
 IsDeletion s cancelled (newest ∷ older) due = due ≡ (if is_idle newest.kind && cancelled then Some dues.Delete else None)
+
+-- the receipt on its fate is to be told
+abbrev pub IsTelling : Standpoint → List Decree → Option Due → Type 0
+IsTelling s [] due = ⊥
+IsTelling s (newest ∷ older) due = (taken : Submission) → taken_in (newest ∷ older) ≡ Some taken →
+    option_map (fitting_for s newest older) due ≡ telling_rule s taken newest older
 
 -- an attempt of this incarnation was closed so
 abbrev pub IsEnd : Standpoint → Closing → List Decree → Option Due → Type 0

@@ -22,6 +22,8 @@ pub enum Due {
     GiveUp,
     /// The message is deleted.
     Delete,
+    /// The receipt on its fate is told.
+    Told,
     /// The message expires, cannot be delivered, or is attempted.
     Decree(DueDecree),
 }
@@ -36,6 +38,7 @@ impl Due {
             Due::Lose => Kind::Failed(ErrorCode::of(OLDER_INCARNATION)),
             Due::GiveUp => Closing::GivenUp.kind(),
             Due::Delete => Kind::Fate(Final::Deleted, ErrorCode::of(0)),
+            Due::Told => Kind::Told,
             Due::Decree(due) => due.kind(error),
         }
     }

@@ -5,7 +5,7 @@ ghost use Rattle.mc_model.specs.message.Decree.{Decree as DecreeValue};
 ghost use Rattle.node_model.specs.Rules.{attempt_rule, is_attempt_by};
 ghost use Rattle.node_model.specs.Starts.{is_idle, moment_behind};
 ghost use Rattle.tick_rules.specs.Attempts.{attempted_at};
-ghost use Rattle.tick_rules.specs.Dues.{IsBehind, IsDecreeBehind, IsDeletion, IsDueBehind, IsEnd, MayBeDue, MayEnd, fitting_for};
+ghost use Rattle.tick_rules.specs.Dues.{IsBehind, IsDecreeBehind, IsDeletion, IsDueBehind, IsEnd, IsTelling, MayBeDue, MayEnd, fitting_for};
 ghost use Rattle.delivery.specs.Targets.{is_up};
 ghost use Rattle.tick_rules.specs.Standpoints.{kept_of, setup_of};
 
@@ -48,7 +48,7 @@ impl Standpoint {
         }
         match due(chain, self.moment_behind(newest), up) {
             Some(due) => Some(Due::Decree(due)),
-            None => None,
+            None => self.telling(chain),
         }
     }
 
@@ -64,6 +64,20 @@ impl Standpoint {
             Some(Due::Delete)
         } else {
             None
+        }
+    }
+
+    /// What is due after a chain that is known if it ends in a fate on which the node owes a receipt: that it is told. It takes no memory.
+    pub fn telling(&self, chain: &Chain) -> Option<Due>
+        ensures due { IsTelling self.now chain.now.decrees result }
+        ensures may { IfSome result (MayBeDue self.now chain.now.decrees) }
+    {
+        match chain.newest().kind {
+            Kind::Fate(last, _)
+                if self.author.node == chain.home() && chain.submission().asks_receipt(last) => {
+                Some(Due::Told)
+            }
+            _ => None,
         }
     }
 
