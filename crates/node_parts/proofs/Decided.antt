@@ -1,28 +1,28 @@
 -- No rule fits a message that is decided while no request asks of it.
 use Rattle.std.proofs.Common.{◌≡◌, ℕ, Bool, true, false, List, [], ◌∷◌, Option, Some, None, refl, sym, ap, ◌∙◌, inl, inr}
-use Rattle.std.specs.Prelude.{◌==◌, if◌then◌else◌}
+use Rattle.std.specs.Prelude.{◌==◌, ◌&&◌, if◌then◌else◌}
 use Rattle.std.specs.Option.{is_none, option_or}
 use Rattle.std.proofs.lemmas.Bool.{and_parts, cases_Bool, not-true, true≢false}
 use Rattle.std.proofs.lemmas.Bool.Decides.{Decides-eqb}
 use Rattle.mc_model.specs.message.Submission.{Submission}
 use Rattle.mc_model.specs.message.Decree.{Attempt, Decree, Failed, Fate, Final, Kind, Taken, Told}
-use Rattle.mc_model.specs.message.Chain.{final_by, final_in, taken_in}
+use Rattle.mc_model.specs.message.Chain.{home_in, taken_in}
 use Rattle.mc_model.specs.synod.Lists.{In}
 use Rattle.mc_model.specs.synod.Packet.{TopVote}
-use Rattle.mc_model.specs.node.FirstRule.{Delete, Expire, Try, Undeliver}
+use Rattle.mc_model.specs.node.FirstRule.{Announce, Delete, Expire, Try, Undeliver}
 use Rattle.mc_model.specs.node.Setup.{Setup}
 use Rattle.node_model.specs.Acceptor.{told_of}
-use Rattle.node_model.specs.Answers.{had_fate}
+use Rattle.node_model.specs.Answers.{is_asked}
 use Rattle.node_model.specs.Kept.{Held, Kept, message_at}
 use Rattle.node_model.specs.Requests.{id_of}
 use Rattle.node_model.specs.Rules.{attempt_rule, expiring, first_rule, fitting, idle_rule, if_so, is_attempt_by, known_rule, own_rule}
 use Rattle.node_model.specs.Rules.{shown_to, taken_for, tried, undelivered}
-use Rattle.node_model.specs.Starts.{delete_of, follow, is_idle}
+use Rattle.node_model.specs.Starts.{announced, delete_of, follow, is_idle, start_behind}
 use Rattle.waiting_requests.specs.Numbers.{ids_in}
 use Rattle.tick_rules.specs.declared.standpoint.Standpoint.{Standpoint}
 use Rattle.synod_acceptor.specs.Records.{record_at}
 use Rattle.node_parts.specs.declared.message.Message.{Message as Filed}
-use Rattle.node_parts.specs.Living.{is_decided}
+use Rattle.node_parts.specs.Living.{is_decided, is_known_over, is_last}
 use Rattle.node_parts.specs.Messages.{message_of}
 use Rattle.node_parts.specs.Turning.{IsAtRest}
 use Rattle.node_parts.proofs.Ticks.{goes_on}
@@ -49,51 +49,70 @@ none_then : (test : Bool) → if_so test None ≡ None
 none_then true = refl
 none_then false = refl
 
--- behind a fate, told or not
-module _ (setup : Setup) (k : Kept) (id : ℕ) (newest : Decree) (older : List Decree) where
+-- behind a fate of which no receipt is asked, or that is told
+module _ (setup : Setup) (k : Kept) (id : ℕ) (newest : Decree) (older : List Decree) (taken : Submission) where
   -- no rule fits such a newest decree
   record IsOver (kind : Kind) : Type 0 where
     waits : is_idle kind ≡ false
     tries : is_attempt_by setup.node newest kind ≡ false
     undelivers : undelivered setup k newest older kind ≡ None
-    tried_again : (taken : Submission) → tried setup k taken newest older kind ≡ None
+    tried_again : tried setup k taken newest older kind ≡ None
+    untold : announced setup k taken newest older kind ≡ None
 
   module _ (over : IsOver newest.kind) where
-    none_deleted : (taken : Option Submission) → delete_of setup k id k.held newest older taken ≡ None
+    none_deleted : (message : Option Submission) → delete_of setup k id k.held newest older message ≡ None
     none_deleted None = refl
-    none_deleted (Some taken) = rw over.waits refl
+    none_deleted (Some message) = rw over.waits refl
 
-    none_expires : (taken : Submission) → expiring setup k taken newest older ≡ None
-    none_expires taken = rw over.waits refl
+    none_expires : expiring setup k taken newest older ≡ None
+    none_expires = rw over.waits refl
 
-    idle_none : (taken : Submission) (up : Bool) → idle_rule setup k id taken up newest older ≡ None
-    idle_none taken up = λ i.
+    idle_none : (up : Bool) → idle_rule setup k id taken up newest older ≡ None
+    idle_none up = λ i.
         option_or (fitting Delete (none_deleted (taken_in (newest ∷ older)) i))
-        (option_or (fitting Expire (none_expires taken i))
+        (option_or (fitting Expire (none_expires i))
         (option_or (fitting Undeliver (over.undelivers i))
-        (fitting Try ((ap (if_so up) (over.tried_again taken) ∙ none_then up) i))))
+        (option_or (fitting Try ((ap (if_so up) over.tried_again ∙ none_then up) i))
+        (fitting Announce (over.untold i)))))
 
-    own_none : (up : List ℕ → Bool) (taken : Option Submission) → own_rule setup k up id newest older taken ≡ None
-    own_none up None = refl
-    own_none up (Some taken) =
+    own_none : (up : List ℕ → Bool) → own_rule setup k up id newest older (Some taken) ≡ None
+    own_none up =
         ap (λ (test : Bool). if test then attempt_rule setup k (message_at k id) (up taken.target) newest older
         else idle_rule setup k id taken (up taken.target) newest older) over.tries
-        ∙ idle_none taken (up taken.target)
+        ∙ idle_none (up taken.target)
 
-  is_over : (kind : Kind) (below : Option Final) → is_none (final_by kind below) ≡ false → IsOver kind
-  is_over (Taken message) below fate = absurd (true≢false fate)
-  is_over (Attempt number) below fate = absurd (true≢false fate)
-  is_over (Failed error) below fate = absurd (true≢false fate)
-  is_over (Fate final error) below fate = record { waits = refl; tries = refl; undelivers = refl; tried_again = λ taken. refl }
-  is_over Told below fate = record { waits = refl; tries = refl; undelivers = refl; tried_again = λ taken. refl }
+  -- no receipt is told of which none was asked for
+  none_told : (final : Final) (error : ℕ) → is_asked final taken ≡ false → announced setup k taken newest older (Fate final error) ≡ None
+  none_told final error unasked = rw unasked (by_home (setup.node == home_in (newest ∷ older)))
+    where
+      by_home : (home : Bool) → (if home && false then Some (start_behind setup k newest older Told) else None) ≡ None
+      by_home true = refl
+      by_home false = refl
 
-none_known : (setup : Setup) (k : Kept) (up : List ℕ → Bool) (id : ℕ) (known : Option (List Decree)) → had_fate known ≡ true →
+  over_by : (kind : Kind) → is_last (Some taken) kind ≡ true → IsOver kind
+  over_by (Taken message) last = absurd (true≢false (sym last))
+  over_by (Attempt number) last = absurd (true≢false (sym last))
+  over_by (Failed error) last = absurd (true≢false (sym last))
+  over_by (Fate final error) last = record {
+    waits = refl;
+    tries = refl;
+    undelivers = refl;
+    tried_again = refl;
+    untold = none_told final error (not-true (is_asked final taken) last);
+  }
+  over_by Told last = record { waits = refl; tries = refl; undelivers = refl; tried_again = refl; untold = refl }
+
+none_behind : (setup : Setup) (k : Kept) (up : List ℕ → Bool) (id : ℕ) (newest : Decree) (older : List Decree) (taken : Option Submission) →
+    is_last taken newest.kind ≡ true → own_rule setup k up id newest older taken ≡ None
+none_behind setup k up id newest older None last = refl
+none_behind setup k up id newest older (Some taken) last =
+    own_none setup k id newest older taken (over_by setup k id newest older taken newest.kind last) up
+
+none_known : (setup : Setup) (k : Kept) (up : List ℕ → Bool) (id : ℕ) (known : Option (List Decree)) → is_known_over known ≡ true →
     known_rule setup k up id known ≡ None
-none_known setup k up id None fate = absurd (true≢false (sym fate))
-none_known setup k up id (Some []) fate = refl
-none_known setup k up id (Some (newest ∷ older)) fate =
-    own_none setup k id newest older (is_over setup k id newest older newest.kind (final_in older) (not-true (is_none (final_in (newest ∷ older))) fate))
-    up (taken_in (newest ∷ older))
+none_known setup k up id None over = absurd (true≢false (sym over))
+none_known setup k up id (Some []) over = refl
+none_known setup k up id (Some (newest ∷ older)) over = none_behind setup k up id newest older (taken_in (newest ∷ older)) over
 
 -- ---- no rule fits
 
@@ -104,7 +123,7 @@ nothing (Some x) is = absurd (true≢false (sym is))
 pub no_rule : (setup : Setup) (k : Kept) (held : List Held) (up : List ℕ → Bool) (id : ℕ) (m : Filed) (s : Standpoint) → IsAtRest setup k held id m s →
     is_decided id m ≡ true → (In id (ids_in held) → ⊥) → first_rule setup k up id ≡ None
 no_rule setup k held up id m s rest decided unasked =
-    let both = and_parts (had_fate (message_of id m).known) (is_none (follow (message_of id m).known (told_of (record_at m.acceptor) id))) decided in
+    let both = and_parts (is_known_over (message_of id m).known) (is_none (follow (message_of id m).known (told_of (record_at m.acceptor) id))) decided in
     let nothing_shown : None ≡ follow (message_of id m).known (shown_to id held (told_of (record_at m.acceptor) id)) =
     nothing (follow (message_of id m).known (told_of (record_at m.acceptor) id)) both.1
     ∙ ap (follow (message_of id m).known) (sym (none_shown id held (told_of (record_at m.acceptor) id) unasked)) in

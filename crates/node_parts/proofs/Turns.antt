@@ -4,7 +4,7 @@ use Rattle.std.specs.Prelude.{pred, option_map, if◌then◌else◌}
 use Rattle.mc_model.specs.message.Chain.{Chain}
 use Rattle.mc_model.specs.synod.Ballot.{ballot_of}
 use Rattle.mc_model.specs.synod.Packet.{Packet, Prepare, Slot, slot_at, slot_of}
-use Rattle.mc_model.specs.node.FirstRule.{Close, Delete, Expire, Follow, GiveUp, Lose, Rule, Take, Try, Undeliver}
+use Rattle.mc_model.specs.node.FirstRule.{Announce, Close, Delete, Expire, Follow, GiveUp, Lose, Rule, Take, Try, Undeliver}
 use Rattle.mc_model.specs.node.Outcome.{Unanswered, no_session_error}
 use Rattle.mc_model.specs.node.Setup.{Setup}
 use Rattle.node_model.specs.Kept.{Held, Kept, message_at, with_message}
@@ -52,6 +52,7 @@ ruled_is setup k id (Some fit) = by_rule fit.rule
     by_rule Expire = refl
     by_rule Undeliver = refl
     by_rule Try = refl
+    by_rule Announce = refl
 
 -- ---- whose it is
 

@@ -5,9 +5,12 @@ use Rattle.std.specs.List.{AllByRecursion, insert, slice_get}
 use Rattle.std.specs.Map.{keys_of}
 use Rattle.std.specs.Option.{is_none}
 use Rattle.std.specs.Ordering.{nat_cmp}
+use Rattle.mc_model.specs.message.Submission.{Submission}
+use Rattle.mc_model.specs.message.Decree.{Attempt, Decree, Failed, Fate, Final, Kind, Taken, Told}
+use Rattle.mc_model.specs.message.Chain.{taken_in}
 use Rattle.mc_model.specs.synod.Lists.{In}
 use Rattle.node_model.specs.Acceptor.{told_of}
-use Rattle.node_model.specs.Answers.{had_fate}
+use Rattle.node_model.specs.Answers.{is_asked}
 use Rattle.node_model.specs.Starts.{follow}
 use Rattle.delivery.specs.Targets.{is_up}
 use Rattle.shelf.specs.Shelved.{value_at, with_value}
@@ -18,9 +21,30 @@ use Rattle.node_parts.specs.declared.noted.Noted.{Noted}
 use Rattle.node_parts.specs.Messages.{message_of, rested}
 use Rattle.node_parts.specs.Sleeping.{IsAsleep}
 
--- a final state of a message is known, and no vote of the node's own stands beyond that
+-- nothing may follow a decree: it tells the receipt, or is a final state of which none was asked for (5.2.17)
+abbrev pub is_unasked : Final → Option Submission → Bool
+is_unasked final None = false
+is_unasked final (Some taken) = not (is_asked final taken)
+
+abbrev pub is_last : Option Submission → Kind → Bool
+is_last taken (Taken message) = false
+is_last taken (Attempt number) = false
+is_last taken (Failed error) = false
+is_last taken (Fate final error) = is_unasked final taken
+is_last taken Told = true
+
+-- a chain ends in such a decree
+abbrev pub is_over : List Decree → Bool
+is_over [] = false
+is_over (newest ∷ older) = is_last (taken_in (newest ∷ older)) newest.kind
+
+abbrev pub is_known_over : Option (List Decree) → Bool
+is_known_over None = false
+is_known_over (Some chain) = is_over chain
+
+-- such a chain of a message is known, and no vote of the node's own stands beyond that
 abbrev pub is_decided : ℕ → Filed → Bool
-is_decided id m = had_fate (message_of id m).known && is_none (follow (message_of id m).known (told_of (record_at m.acceptor) id))
+is_decided id m = is_known_over (message_of id m).known && is_none (follow (message_of id m).known (told_of (record_at m.acceptor) id))
 
 -- A message that is not live: so it is, and no round of it runs.
 pub record IsSettled (id : ℕ) (m : Filed) : Type 0 where

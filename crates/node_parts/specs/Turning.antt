@@ -1,7 +1,7 @@
 -- What a tick makes of one message.
 use Rattle.std.specs.Prelude.{◌≡◌, ℕ, pred, Bool, true, false, List, [], Option, Some, None, option_map, if◌then◌else◌}
 use Rattle.mc_model.specs.synod.Packet.{slot_at}
-use Rattle.mc_model.specs.node.FirstRule.{Close, Delete, Expire, Follow, GiveUp, Lose, Rule, Take, Try, Undeliver}
+use Rattle.mc_model.specs.node.FirstRule.{Announce, Close, Delete, Expire, Follow, GiveUp, Lose, Rule, Take, Try, Undeliver}
 use Rattle.mc_model.specs.node.Setup.{Setup}
 use Rattle.node_model.specs.Kept.{Held, Kept, message_at, with_message}
 use Rattle.node_model.specs.Proposer.{Prepared, Start}
@@ -38,6 +38,7 @@ gives_up Delete = false
 gives_up Expire = false
 gives_up Undeliver = false
 gives_up Try = false
+gives_up Announce = false
 
 abbrev pub ruled_by : Fitting → Option ℕ × Start
 ruled_by fit = ((if gives_up fit.rule then Some (pred fit.start.place) else None), fit.start)

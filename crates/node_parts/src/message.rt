@@ -31,7 +31,7 @@ ghost use Rattle.delivery.specs.Targets.{is_up};
 ghost use Rattle.node_parts.specs.Turning.{IsAtRest, IsOfTurn, gives_up, ruled_as, ruled_by, turned};
 ghost use Rattle.node_parts.specs.Messages.{IsConcluded, IsHeard, IsJudged, IsOf, IsPromised, IsRefused, IsStarted, IsStartedFor};
 ghost use Rattle.node_parts.specs.Messages.{IsTriedSo, changed_by, closed_at, granted_at, message_of, rested};
-ghost use Rattle.node_parts.specs.Living.{is_decided};
+ghost use Rattle.node_parts.specs.Living.{is_decided, is_over};
 ghost use Rattle.node_parts.specs.Sleeping.{IsAsleep, sleep_of};
 ghost use Rattle.node_parts.specs.Renewal.{renewed};
 ghost use Rattle.waiting_requests.specs.Queues.{timely};
@@ -175,11 +175,17 @@ impl Message {
         }
     }
 
-    /// Whether a final state of the message of this id is known, and its acceptor did not vote beyond that. It takes no memory.
+    /// Whether nothing is to be decided on the message of this id any more: its receipt is told, or a final state is known of which none was asked for,
+    /// and its acceptor did not vote beyond that. It takes no memory.
     pub fn is_decided(&self, id: MsgId) -> bool
         ensures { result ≡ is_decided id self.now }
     {
-        self.has_fate(id) && follow(self.learner.known(id), self.acceptor.tell(id)).is_none()
+        match self.learner.known(id) {
+            Some(chain) => {
+                is_over(chain) && follow(Some(chain), self.acceptor.tell(id)).is_none()
+            }
+            None => false,
+        }
     }
 
     /// The moment before which no rule of a tick of this author fits the message of this id, with these accounts of which a session may receive, while no
@@ -474,6 +480,17 @@ impl Message {
             proposer: self.proposer.copy()?,
             attempts: self.attempts,
         })
+    }
+}
+
+/// Whether nothing may follow a chain: it ends in a Told, or in a final state of which no receipt was asked for.
+fn is_over(chain: &Chain) -> bool
+    ensures { result ≡ is_over chain.now.decrees }
+{
+    match chain.newest().kind {
+        Kind::Fate(last, _) => !chain.submission().asks_receipt(last),
+        Kind::Told => true,
+        _ => false,
     }
 }
 

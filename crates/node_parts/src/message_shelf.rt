@@ -39,9 +39,9 @@ use synod_learner::Recount;
 use tick_rules::Standpoint;
 
 /// The messages that a node keeps, by their ids, with a list of those that are live: a message that is not on the list has a final state,
-/// the node's own votes do not go beyond that, and no round of it runs. So no rule of a tick fits it while no request waits that asks of
-/// it. A message is listed when it is put here, and is on the list until a tick finds it decided. A message is put here without taking
-/// memory, if there is room.
+/// with its receipt told if one was asked for, the node's own votes do not go beyond that, and no round of it runs. So no rule of a tick
+/// fits it while no request waits that asks of it. A message is listed when it is put here, and is on the list until a tick finds it
+/// decided. A message is put here without taking memory, if there is room.
 ///
 /// Of those that are listed it is noted until when they sleep, for a node and the accounts that were up at its last tick; one that was put since is awake.
 /// Those that are awake have a list of their own, and it is noted before when no other one wakes: until then a tick looks at those that are awake alone.
