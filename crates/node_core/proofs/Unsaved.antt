@@ -3,7 +3,7 @@ use Rattle.std.proofs.Common.{◌≡◌, ◌≢◌, ℕ, pred, Bool, List, [], �
 use Rattle.std.specs.Prelude.{IsSome, Result, Ok, Err, max, if◌then◌else◌}
 use Rattle.mc_model.specs.synod.Packet.{Slot}
 use Rattle.mc_model.specs.node.Actor.{Request, id_in}
-use Rattle.mc_model.specs.node.FirstRule.{Close, Delete, Expire, Follow, GiveUp, Lose, Rule, Take, Try, Undeliver}
+use Rattle.mc_model.specs.node.FirstRule.{Announce, Close, Delete, Expire, Follow, GiveUp, Lose, Rule, Take, Try, Undeliver}
 use Rattle.mc_model.specs.node.Setup.{Setup}
 use Rattle.node_model.specs.Attempts.{closed_by, concluded}
 use Rattle.node_model.specs.Kept.{Kept, message_at}
@@ -44,6 +44,7 @@ given_up_leaves Delete k id place = refl
 given_up_leaves Expire k id place = refl
 given_up_leaves Undeliver k id place = refl
 given_up_leaves Try k id place = refl
+given_up_leaves Announce k id place = refl
 
 ruled_leaves : (setup : Setup) (k : Kept) (id : ℕ) (fitting : Option Fitting) → (ruled setup k id fitting).kept.records ≡ k.records
 ruled_leaves setup k id None = refl

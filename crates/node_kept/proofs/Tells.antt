@@ -1,29 +1,32 @@
 -- What is told to a request that waits is told as in the model.
 use Rattle.std.proofs.Common.{◌≡◌, ℕ, Bool, true, false, List, [], ◌∷◌, Option, Some, None, refl, sym, ap, subst, ◌∙◌}
-use Rattle.std.specs.Prelude.{IfSome, suc, pred, max, length, ◌&&◌, map, option_map, if◌then◌else◌}
+use Rattle.std.specs.Prelude.{IfSome, suc, pred, max, length, ◌==◌, ◌&&◌, map, option_map, if◌then◌else◌}
 use Rattle.std.specs.Global.{Vec}
 use Rattle.std.specs.List.{list_any}
 use Rattle.mc_model.specs.synod.Ballot.{ballot_of}
-use Rattle.mc_model.specs.message.Decree.{Decree, Deleted, Fate}
+use Rattle.mc_model.specs.message.Decree.{Attempt, Decree, Deleted, Failed, Fate, Kind, Taken, Told}
 use Rattle.mc_model.specs.message.Submission.{Submission}
-use Rattle.mc_model.specs.message.Chain.{Chain, taken_in}
+use Rattle.mc_model.specs.message.Chain.{Chain, home_in, taken_in}
 use Rattle.mc_model.specs.synod.Packet.{Name, Packet, Prepare, Slot, TopVote, slot_at, slot_of}
 use Rattle.mc_model.specs.node.Replies.{Answer}
 use Rattle.mc_model.specs.node.Outputs.{Outputs}
+use Rattle.mc_model.specs.node.FirstRule.{Announce}
 use Rattle.mc_model.specs.node.Setup.{Setup}
-use Rattle.node_model.specs.Answers.{answer_to, replied}
+use Rattle.node_model.specs.Answers.{answer_to, is_asked, replied}
 use Rattle.node_model.specs.Kept.{Held, Kept, message_at, with_message}
 use Rattle.node_model.specs.Message.{Message}
 use Rattle.node_model.specs.Outputs.{Stepped, leaves, nothing}
 use Rattle.node_model.specs.Packets.{answer_told, is_own_name, on_tell, tell_held, tells_about, told_to}
 use Rattle.node_model.specs.Proposer.{Prepared, Start, highest_round, is_free, prepared_at, started, started_at}
 use Rattle.node_model.specs.Requests.{held_at, id_of, settled_by, settles, told_by, with_held}
-use Rattle.node_model.specs.Starts.{cancels, delete_for, delete_of, is_idle, start_behind}
+use Rattle.node_model.specs.Rules.{Fitting, fitting}
+use Rattle.node_model.specs.Starts.{announced, cancels, delete_for, delete_of, is_idle, start_behind, tell_for, tell_of}
 use Rattle.waiting_requests.specs.Replying.{reply_given}
 use Rattle.waiting_requests.specs.Waiting.{held_in}
 use Rattle.waiting_requests.specs.declared.answer.Reply.{Reply}
-use Rattle.tick_rules.specs.Dues.{IsBehind, IsDeletion, start_for}
-use Rattle.tick_rules.specs.Standpoints.{start_of}
+use Rattle.tick_rules.specs.Dues.{IsBehind, IsDeletion, IsTelling, fitting_for, start_for, telling_rule}
+use Rattle.tick_rules.specs.Standpoints as standpoints
+use Rattle.tick_rules.specs.Standpoints.{setup_of, start_of}
 use Rattle.tick_rules.specs.declared.due.Due.{Due}
 use Rattle.tick_rules.specs.declared.due.Due.TheVariants as dues
 use Rattle.tick_rules.specs.declared.standpoint.Standpoint.{Standpoint}
@@ -84,6 +87,53 @@ deleted_for setup k id held cancelled (newest ∷ older) taken is asked =
   where
     delete_if : Bool → Option Start
     delete_if b = deletion_if setup k b (newest ∷ older)
+
+-- ---- its receipt is told
+
+module _ (s : Standpoint) (setup : Setup) (k : Kept) (node : s.author.node ≡ setup.node) (incarnation : s.author.incarnation ≡ k.incarnation)
+    (clock : s.clock ≡ k.clock) where
+  announced_by : (taken : Submission) (newest : Decree) (older : List Decree) (kind : Kind) →
+      announced (setup_of s) (standpoints.kept_of s) taken newest older kind ≡ announced setup k taken newest older kind
+  announced_by taken newest older (Taken message) = refl
+  announced_by taken newest older (Attempt number) = refl
+  announced_by taken newest older (Failed error) = refl
+  announced_by taken newest older (Fate final error) = λ i.
+      if (node i == home_in (newest ∷ older)) && is_asked final taken
+      then Some (record {
+        place = length (newest ∷ older);
+        chain = record {
+          author = record { node = node i; incarnation = incarnation i };
+          moment = max (clock i) newest.moment;
+          kind = Told;
+        } ∷ newest ∷ older;
+      })
+      else None
+  announced_by taken newest older Told = refl
+
+  fits : (found : Option Fitting) (start : Option Start) → found ≡ fitting Announce start → option_map (λ (fit : Fitting). fit.start) found ≡ start
+  fits found None is = ap (option_map (λ (fit : Fitting). fit.start)) is
+  fits found (Some start) is = ap (option_map (λ (fit : Fitting). fit.start)) is
+
+  told_for : (taken : Submission) (newest : Decree) (older : List Decree) (found : Option Fitting) → taken_in (newest ∷ older) ≡ Some taken →
+      found ≡ telling_rule s taken newest older → option_map (λ (fit : Fitting). fit.start) found ≡ tell_for setup k None (newest ∷ older)
+  told_for taken newest older found message is =
+      fits found (announced (setup_of s) (standpoints.kept_of s) taken newest older newest.kind) is
+      ∙ announced_by taken newest older newest.kind
+      ∙ ap (tell_of setup k newest older) (sym message)
+
+  pub announces : (chain : List Decree) (taken : Submission) (due : Due) (next : Chain) → taken_in chain ≡ Some taken → IsTelling s chain (Some due) →
+      IsBehind s chain due next.decrees → Some (start_of next) ≡ tell_for setup k None chain
+  announces [] taken due next message is behind = absurd is
+  announces (newest ∷ older) taken due next message is behind =
+      let decrees : next.decrees ≡ (start_for s newest older due).chain = behind in
+      (λ i. Some (record { place = pred (length (decrees i)); chain = decrees i }))
+      ∙ told_for taken newest older (Some (fitting_for s newest older due)) message (is taken message)
+
+  pub announces_none : (chain : List Decree) (taken : Submission) (found : Option Due) → taken_in chain ≡ Some taken → IsTelling s chain found →
+      ((due : Due) → found ≡ Some due → ⊥) → None ≡ tell_for setup k None chain
+  announces_none chain taken (Some due) message is other = absurd (other due refl)
+  announces_none [] taken None message is other = absurd is
+  announces_none (newest ∷ older) taken None message is other = told_for taken newest older None message (is taken message)
 
 -- ---- a round starts
 

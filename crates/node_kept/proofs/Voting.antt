@@ -1,8 +1,13 @@
 -- A vote that is told, and what becomes known by it, are taken in as in the model.
-use Rattle.std.proofs.Common.{◌≡◌, ℕ, Bool, true, false, refl, sym, ap, subst, ◌∙◌, arith}
+use Rattle.std.proofs.Common.{◌≡◌, ℕ, Bool, true, false, List, Option, Some, None, refl, sym, ap, subst, ◌∙◌, arith}
 use Rattle.std.specs.Prelude.{◌&&◌, if◌then◌else◌}
+use Rattle.std.proofs.lemmas.Bool.{and_parts}
+use Rattle.std.proofs.lemmas.Bool.Decides.{nat_tests}
+use Rattle.mc_model.specs.message.Decree.{Decree}
+use Rattle.node_model.specs.Answers.{is_known_so}
 use Rattle.node_model.specs.Kept.{message_at, with_message}
-use Rattle.node_model.specs.Learner.{heard, makes_known}
+use Rattle.node_model.specs.Learner.{heard, is_shorter, makes_known}
+use Rattle.node_model.specs.Sets.{is_majority}
 use Rattle.node_model.specs.Message.{Message}
 use Rattle.node_model.specs.Outputs.{nothing, Stepped, leaves}
 use Rattle.node_model.specs.Packets.{known_then, on_known, on_voted, vote_concerns}
@@ -62,6 +67,15 @@ module _ (k : Holding) (sender : ℕ) (vote : Cast) (taken new : Filed) (grows :
   known_as is_known =
       as_changed k id taken new (message_at (kept_of k) id) (known_then m vote.chain.decrees) is_taken is_heard.same
       (message_is ∙ ap (λ (b : Bool). known_if b m vote.chain.decrees) is_known)
+
+  -- it was not known before
+  pub known_anew : grows ≡ true → is_known_so m.known vote.chain.decrees ≡ false
+  known_anew is_known = by_known m.known
+      (and_parts (is_majority k.setup.nodes (m.votes (vote_of vote))) (is_shorter m.known vote.chain.decrees) (sym decides ∙ is_known)).1
+    where
+      by_known : (known : Option (List Decree)) → is_shorter known vote.chain.decrees ≡ true → is_known_so known vote.chain.decrees ≡ false
+      by_known None shorter = refl
+      by_known (Some old) shorter = grind (arith, nat_tests)
 
   pub voted_known : grows ≡ true → IsStep k (on_known k.setup (kept_of k) id m vote.chain.decrees) step →
       IsStep k (voted_in k.setup (kept_of k) sender (slot_in vote) (vote_of vote)) step

@@ -30,7 +30,3 @@ pub record IsCountedSo (k : Holding) (sender : ℕ) (vote : Cast) (c : Counted) 
   pub message : Filed
   pub kept : value_at k.messages.entries vote.chain.id ≡ Some message
   pub heard : IsHeardAnew message sender vote c.recount
-
--- a receipt of a chain, if it is due
-abbrev pub receipt_if : Bool → ℕ → ℕ → List Decree → List Receipt
-receipt_if due node id chain = if due then receipts_of node id None chain else []

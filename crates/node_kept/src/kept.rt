@@ -5,6 +5,7 @@ ghost use Rattle.std.specs.Option.{option_copied};
 ghost use Rattle.mc_model.specs.node.Setup.{Setup as SetupValue};
 ghost use Rattle.mc_model.specs.synod.Acceptor.{Records};
 ghost use Rattle.node_model.specs.Acceptor.{told_of};
+ghost use Rattle.node_model.specs.Answers.{is_told_by, receipts_of};
 ghost use Rattle.node_model.specs.Outputs.{leaves};
 ghost use Rattle.mc_model.specs.message.Ids.{IsId};
 ghost use Rattle.mc_model.specs.node.Room.{is_busy, last_ticket};
@@ -22,7 +23,7 @@ ghost use Rattle.node_kept.specs.Listing.{ListsRecorded};
 ghost use Rattle.node_kept.specs.Queueing.{HasPlace, requeued};
 ghost use Rattle.node_kept.specs.declared.queue_change.QueueChange.TheVariants.{Same};
 ghost use Rattle.waiting_requests.specs.Waiting.{held_in};
-ghost use Rattle.node_kept.specs.Voting.{IsCountedSo, id_concerns, receipt_if, voted_in};
+ghost use Rattle.node_kept.specs.Voting.{IsCountedSo, id_concerns, voted_in};
 ghost use Rattle.node_kept.specs.Preparing.{IsPrepared};
 ghost use Rattle.node_parts.specs.declared.input.Input.TheVariants as inputs;
 ghost use Rattle.node_kept.specs.Steps.{HasRoom, IsAnswer, IsCounting, IsFault, IsInstalled, IsLeft, IsNext, IsQuietStep, IsStep, IsStepFor, MayCount};
@@ -32,7 +33,7 @@ ghost use Rattle.node_model.specs.Reported.{receipt_of};
 use crate::queue_change::QueueChange;
 use crate::setup::Setup;
 use crate::step::{Counted, Next, Put, Step};
-use fate_chain::{Author, Chain};
+use fate_chain::{Author, Chain, Decree, Kind};
 use mc_types::{Ballot, Incarnation, Moment, MsgId, NodeNo, Slot};
 use node_parts::{Input, Message, MessageShelf, Outputs, StepFault, sender};
 use pdu_codec::SystemId;
@@ -466,22 +467,30 @@ impl Kept {
             || (id.incarnation() == self.incarnation && id.serial() < self.serial)
     }
 
-    /// The chain, once more, if it has the first final state that is known of its message, and this node is to write a receipt of that.
+    /// The chain, once more, if it ends in a Told of this node, in this incarnation: then the node writes its receipt.
     #[inline(never)]
-    pub(crate) fn receipt(&self, had_fate: bool, chain: &Chain) -> Result<Option<Chain>, AllocError>
+    pub(crate) fn receipt(&self, chain: &Chain) -> Result<Option<Chain>, AllocError>
         ensures { IfOk result (λ receipt. listed (option_map receipt_of receipt)
-            ≡ receipt_if (not had_fate) self.now.setup.node chain.now.id chain.now.decrees) }
+            ≡ receipts_of self.now.setup.node self.now.incarnation chain.now.id None chain.now.decrees) }
     {
-        if had_fate {
-            return Ok(None);
-        }
-        let Some(last) = chain.fate() else {
-            return Ok(None);
-        };
-        if chain.id().node() != self.node() || !chain.submission().asks_receipt(last) {
+        chain.bounds();
+        if !self.is_told_here(chain.newest()) {
             return Ok(None);
         }
         Ok(Some(chain.copy()?))
+    }
+
+    /// Whether a decree is a Told of this node, in this incarnation.
+    fn is_told_here(&self, newest: &Decree) -> bool
+        ensures { result ≡ is_told_by self.now.setup.node self.now.incarnation newest.now.author newest.now.kind }
+    {
+        match newest.kind {
+            Kind::Told => {
+                newest.author.node == self.setup.node
+                    && newest.author.incarnation == self.incarnation
+            }
+            _ => false,
+        }
     }
 
     /// What it does with a refusal.

@@ -6,7 +6,7 @@ use Rattle.node_model.specs.Kept.{message_at}
 use Rattle.node_model.specs.Learner.{heard}
 use Rattle.node_model.specs.Message.{Message}
 use Rattle.node_kept.specs.Keeping.{kept_of}
-use Rattle.node_kept.proofs.Voting.{known_as, voted_known, voted_only}
+use Rattle.node_kept.proofs.Voting.{known_anew, known_as, voted_known, voted_only}
 use Rattle.node_kept.proofs.kept.Kept.heard.Goals as goal
 
 pub returns-then-not-branch : goal.returns-then-not-branch
@@ -28,4 +28,6 @@ returns c =
     c.in_ok-heard.ensures is_known
     (is (heard (message_at (kept_of k) c.args.vote.now.chain.id) c.args.from (vote_of c.args.vote.now))
     (known_as k c.args.from c.args.vote.now c.in_ok-message.message c.heard.new.self grows step c.requires.own c.requires.concerns taken
-    c.in_ok-heard.ensures is_known) fate)) c.learned.ensures
+    c.in_ok-heard.ensures is_known) fate
+    (known_anew k c.args.from c.args.vote.now c.in_ok-message.message c.heard.new.self grows step c.requires.own c.requires.concerns taken
+    c.in_ok-heard.ensures is_known))) c.learned.ensures
