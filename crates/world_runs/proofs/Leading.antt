@@ -12,10 +12,11 @@ use Rattle.world.specs.Runs.{Comes, IsAt, IsSomewhere, Leads, LosesNone}
 use Rattle.world.specs.Scenes.{Scene}
 use Rattle.world_runs.specs.Histories.{BecomesBy, History, numbered_by}
 use Rattle.world_runs.specs.Traces.{AcceptedAreKnown, Answer, AreChosen, AreCopies, DeliveriesStand, DeliveriesStandInRuns, Event, GoesTo}
-use Rattle.world_runs.specs.Traces.{GrantsNoneAfterAFate, HasOneFate, LaterQueriesAreTold, LeadsAll, Tried, answers_in, events_of}
+use Rattle.world_runs.specs.Traces.{GrantsNoneAfterAFate, HasOneFate, HasOneReceipt, LaterQueriesAreTold, LeadsAll, Tried, answers_in, events_of}
 use Rattle.world_runs.proofs.Coming.{started_by_step}
 use Rattle.world_runs.proofs.Copying.{becomes_of, copies_count}
-use Rattle.world_runs.proofs.Linking.{accepted_known, chosen_all, deliveries_stand_in, goes_on_by, grants_none_after, has_one_fate, later_queries_told}
+use Rattle.world_runs.proofs.Linking.{accepted_known, chosen_all, deliveries_stand_in, goes_on_by, grants_none_after, has_one_fate, has_one_receipt}
+use Rattle.world_runs.proofs.Linking.{later_queries_told}
 use Rattle.world_runs.proofs.Standing.{deliveries_stand_in_run}
 
 -- ---- steps with their answers, as events
@@ -166,6 +167,9 @@ module _ (old new : Scene) (steps : List Step) (answers : List Answer) (is : IsS
 
   pub one_fate_of : HasOneFate answers
   one_fate_of = subst HasOneFate (answers_are steps answers all.count) (has_one_fate history)
+
+  pub one_receipt_of : HasOneReceipt answers
+  one_receipt_of = subst HasOneReceipt (answers_are steps answers all.count) (has_one_receipt history)
 
   pub no_grant_of : GrantsNoneAfterAFate answers
   no_grant_of = subst GrantsNoneAfterAFate (answers_are steps answers all.count) (grants_none_after history)

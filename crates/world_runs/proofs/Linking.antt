@@ -10,12 +10,12 @@ use Rattle.world.specs.Runs.{IsAt, begin_anew}
 use Rattle.world.specs.Scenes.{Scene}
 use Rattle.world_runs.specs.Histories.{BecomesBy, History, numbered_by, packets_of}
 use Rattle.world_runs.specs.Traces.{AcceptedAreKnown, AreChosen, DeliveriesStand, Event, GrantsNoneAfterAFate, HaltedOver, HasOneFate}
-use Rattle.world_runs.specs.Traces.{LaterQueriesAreTold, StartedOver, Tried, answers_in}
+use Rattle.world_runs.specs.Traces.{HasOneReceipt, LaterQueriesAreTold, StartedOver, Tried, answers_in}
 use Rattle.world_runs.proofs.Asking.{accepted_are_known, later_queries_are_told}
 use Rattle.world_runs.proofs.Choosing.{are_chosen}
 use Rattle.world_runs.proofs.Events.{ReachesBy}
 use Rattle.world_runs.proofs.Standing.{deliveries_stand}
-use Rattle.world_runs.proofs.Tracing.{grants_none, one_fate}
+use Rattle.world_runs.proofs.Tracing.{grants_none, one_fate, one_receipt}
 
 -- one history after another
 pub goes_on_by : (old mid new : Scene) (first second : List Event) → BecomesBy old first mid → BecomesBy mid second new → BecomesBy old (first ++ second) new
@@ -81,6 +81,9 @@ module _ (h : History) where
 
   pub has_one_fate : HasOneFate (answers_in h.events)
   has_one_fate = one_fate h.stands.cluster h.stands.inputs h.events led.last led.reaches led.at.may
+
+  pub has_one_receipt : HasOneReceipt (answers_in h.events)
+  has_one_receipt = one_receipt h.stands.cluster h.stands.inputs h.events led.last led.reaches led.at.may
 
   pub grants_none_after : GrantsNoneAfterAFate (answers_in h.events)
   grants_none_after = grants_none h.stands.cluster h.stands.inputs h.events led.last led.reaches led.at.may

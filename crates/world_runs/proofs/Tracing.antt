@@ -1,17 +1,19 @@
 -- What the steps of a world tell is what the model's cluster gives out, in the same order.
-use Rattle.std.proofs.Common.{◌≡◌, ℕ, List, ◌∷◌, ◌++◌, Ok, Err, sym, ap, subst, ◌∙◌, inl, inr}
+use Rattle.std.proofs.Common.{◌≡◌, ℕ, ◌+◌, ◌≤◌, List, [], ◌∷◌, ◌++◌, map, Ok, Err, sym, ap, subst, ◌∙◌, inl, inr, arith}
 use Rattle.mc_model.specs.message.Decree.{Final}
 use Rattle.mc_model.specs.synod.Lists.{In}
 use Rattle.mc_model.specs.node.Outputs.{Outputs}
 use Rattle.mc_model.specs.cluster.Steps.{Cluster}
 use Rattle.node_model.specs.Outputs.{nothing}
-use Rattle.node_laws.specs.Clusters.{GrantsOut, MayHappen, NodeInput, StatesFinal, cluster_outputs, outputs_at}
+use Rattle.node_laws.specs.Clusters.{GrantsOut, MayHappen, NodeInput, StatesFinal, cluster_outputs, outputs_at, receipts_given}
 use Rattle.node_laws.proofs.cluster.NoGrant.{no_grant}
+use Rattle.node_laws.proofs.cluster.OneReceipt.{count_both, count_of, one_of_each}
 use Rattle.node_laws.proofs.cluster.Stated.{one_final}
 use Rattle.world.specs.declared.given.Given.{Given}
 use Rattle.world.specs.declared.step.Step.{Step}
-use Rattle.world.specs.Runs.{IsGiven, given_out}
-use Rattle.world_runs.specs.Traces.{Answer, Event, GrantsNoneAfterAFate, HaltedOver, HasOneFate, StartedOver, Tried, answers_in, told_by, told_in}
+use Rattle.world.specs.Runs.{IsGiven, begin_anew, given_out}
+use Rattle.world_runs.specs.Traces.{Answer, Event, GrantsNoneAfterAFate, HaltedOver, HasOneFate, HasOneReceipt, StartedOver, Tried, answers_in}
+use Rattle.world_runs.specs.Traces.{told_by, told_in}
 use Rattle.world_runs.proofs.Events.{ReachesBy, events_cut, given_in, goes_on_by, outputs_since, tried_of, until}
 
 -- ---- an answer and what the model gives out
@@ -47,6 +49,62 @@ states_nothing id final says = elim says.tells [
 
 grants_nothing : (id : ℕ) → GrantsOut nothing id → ⊥
 grants_nothing id grants = let none = grants.granted in cc
+
+-- ---- receipts
+
+module _ (cluster : Cluster) (id : ℕ) where
+  -- how many of a message these inputs gave out
+  abbrev given_by : List NodeInput → ℕ
+  given_by inputs = count_of id (receipts_given (cluster_outputs cluster inputs))
+
+  -- and how many these answers told
+  abbrev told_of : List Answer → ℕ
+  told_of answers = count_of id (receipts_given (map told_in answers))
+
+  more_since : (newer inputs : List NodeInput) → given_by inputs ≤ given_by (newer ++ inputs)
+  more_since [] inputs = omega arith
+  more_since (next ∷ newer) inputs =
+      let both : given_by (next ∷ (newer ++ inputs)) ≡ count_of id (outputs_at cluster (newer ++ inputs) next).receipts + given_by (newer ++ inputs) =
+      count_both id (outputs_at cluster (newer ++ inputs) next).receipts (receipts_given (cluster_outputs cluster (newer ++ inputs))) in
+      let before = more_since newer inputs in
+      omega (arith, both, before)
+
+  -- what was given out before, and what is told since, is given out
+  told_within : (events : List Event) (inputs last : List NodeInput) → ReachesBy cluster inputs events last →
+      told_of (answers_in events) + given_by inputs ≤ given_by last
+  told_within [] inputs last same = let is : given_by last ≡ given_by inputs = ap given_by same in omega (arith, is)
+  told_within (Tried step (Ok given) ∷ events) inputs last r =
+      let out = outputs_at cluster inputs r.0 in
+      let same : count_of id (given_out given).receipts ≡ count_of id out.receipts = ap (λ (o : Outputs). count_of id o.receipts) r.3.others in
+      let told : told_of (Ok given ∷ answers_in events) ≡ count_of id (given_out given).receipts + told_of (answers_in events) =
+      count_both id (given_out given).receipts (receipts_given (map told_in (answers_in events))) in
+      let gave : given_by (r.0 ∷ inputs) ≡ count_of id out.receipts + given_by inputs =
+      count_both id out.receipts (receipts_given (cluster_outputs cluster inputs)) in
+      let later = told_within events (r.0 ∷ inputs) last r.4 in
+      omega (arith, same, told, gave, later)
+  told_within (Tried step (Err fault) ∷ events) inputs last r = told_within events inputs last r
+  told_within (StartedOver ∷ events) inputs last r =
+      let more = more_since (begin_anew cluster.nodes) inputs in
+      let later = told_within events (begin_anew cluster.nodes ++ inputs) last r in
+      omega (arith, more, later)
+  told_within (HaltedOver count fault ∷ events) inputs last r =
+      let more = more_since (begin_anew count) inputs in
+      let later = told_within events (begin_anew count ++ inputs) last r in
+      omega (arith, more, later)
+
+-- of a message there is one at most, with what was given out before
+pub one_in_run : (cluster : Cluster) (inputs : List NodeInput) (events : List Event) (last : List NodeInput) → ReachesBy cluster inputs events last →
+    MayHappen cluster last → (id : ℕ) →
+    count_of id (receipts_given (map told_in (answers_in events))) + count_of id (receipts_given (cluster_outputs cluster inputs)) ≤ 1
+one_in_run cluster inputs events last r may id =
+    let most : given_by cluster id last ≤ 1 = one_of_each cluster last may id in
+    let within = told_within cluster id events inputs last r in
+    omega (arith, most, within)
+
+pub one_receipt : (cluster : Cluster) (inputs : List NodeInput) (events : List Event) (last : List NodeInput) → ReachesBy cluster inputs events last →
+    MayHappen cluster last →
+    HasOneReceipt (answers_in events)
+one_receipt cluster inputs events last r may id = let most = one_in_run cluster inputs events last r may id in omega (arith, most)
 
 -- ---- over a run
 

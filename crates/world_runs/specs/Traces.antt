@@ -10,7 +10,7 @@ use Rattle.mc_model.specs.node.Replies.{Accepted, Answer as Told, Shown, Unknown
 use Rattle.mc_model.specs.cluster.Steps.{Cluster}
 use Rattle.node_model.specs.Outputs.{nothing}
 use Rattle.node_laws.specs.Chosen.{WasVotedFor}
-use Rattle.node_laws.specs.Clusters.{GrantsOut, IsDeliveredBy, NodeInput, StatesFinal, comes_to, kept_reached, step_at}
+use Rattle.node_laws.specs.Clusters.{GrantsOut, IsDeliveredBy, NodeInput, OneOfEach, StatesFinal, comes_to, kept_reached, receipts_given, step_at}
 use Rattle.delivery.specs.declared.outcome.Outcome.TheVariants as outcomes
 use Rattle.desk.specs.declared.request.Request.{Request}
 use Rattle.world.specs.declared.fault.WorldFault.{WorldFault}
@@ -65,6 +65,10 @@ abbrev pub HasOneFate : List Answer → Type 0
 HasOneFate answers =
     (one other : Answer) (id : ℕ) (first second : Final) → In one answers → In other answers →
     StatesFinal (told_in one) id first → StatesFinal (told_in other) id second → first ≡ second
+
+-- Of each message_id one receipt goes out at most.
+abbrev pub HasOneReceipt : List Answer → Type 0
+HasOneReceipt answers = OneOfEach (receipts_given (map told_in answers))
 
 -- of these answers, the first of them first, one came before another
 pub record CameBefore (first second : Answer) (answers : List Answer) : Type 0 where

@@ -12,6 +12,7 @@ ghost use Rattle.world_runs.specs.Traces.{
   Event,
   GrantsNoneAfterAFate,
   HasOneFate,
+  HasOneReceipt,
   LaterQueriesAreTold,
   answers_in,
 };
@@ -30,6 +31,11 @@ pub fn a_history_goes_on()
 /// From any moment of its run on, by whatever steps, and over its stores, a world never tells two final states of one message, by whatever nodes.
 pub fn a_world_tells_one_fate()
     ensures { (h : History) → HasOneFate (answers_in h.events) }
+{}
+
+/// And of each message_id it gives out one receipt at most, however often its nodes start anew.
+pub fn a_world_tells_one_receipt()
+    ensures { (h : History) → HasOneReceipt (answers_in h.events) }
 {}
 
 /// Once a world has told a final state of a message, as DELETED by ESME_ROK to its cancel_sm, it never grants an attempt of it.

@@ -10,6 +10,7 @@ ghost use Rattle.world_runs.specs.Traces.{
   DeliveriesStandInRuns,
   GrantsNoneAfterAFate,
   HasOneFate,
+  HasOneReceipt,
   LaterQueriesAreTold,
   LeadsAll,
   events_of,
@@ -23,15 +24,16 @@ use std::collections::VecDeque;
 use world::{Step, World};
 
 /// Takes these steps, one after the other, whatever each gives. For every list of steps in which packets are delivered, lost, repeated or reordered
-/// and nodes stop and start anew: no two final states that are told of one message differ; once one was told, no attempt of the message is granted; each
-/// DELIVERED that is told stands on an attempt that was granted and answered by ESME_ROK, by these steps if no step was taken before them; and what comes
-/// later is answered by what was told, while its node does not start anew. An `Err` is want of memory for the steps once more, or for what they give; then
-/// none was taken.
+/// and nodes stop and start anew: no two final states that are told of one message differ; of each message_id one receipt goes out at most; once a final state
+/// was told, no attempt of the message is granted; each DELIVERED that is told stands on an attempt that was granted and answered by ESME_ROK, by these steps
+/// if no step was taken before them; and what comes later is answered by what was told, while its node does not start anew. An `Err` is want of memory for
+/// the steps once more, or for what they give; then none was taken.
 pub fn run(alloc: Global, world: &mut World, steps: Vec<Step>) -> Result<Trace, AllocError>
     ensures asked { IfOk result (λ trace. trace.steps.items ≡ steps.items) }
     ensures leads { IfOk result (λ trace. LeadsAll world.old steps.items trace.answers.items world.new) }
     ensures becomes { IfOk result (λ trace. BecomesBy world.old (events_of steps.items trace.answers.items) world.new) }
     ensures one_fate { IfOk result (λ trace. HasOneFate trace.answers.items) }
+    ensures one_receipt { IfOk result (λ trace. HasOneReceipt trace.answers.items) }
     ensures agree { IfOk result (λ trace. Agree (statements_of trace.answers.items)) }
     ensures no_grant { IfOk result (λ trace. GrantsNoneAfterAFate trace.answers.items) }
     ensures stands { IfOk result (λ trace. world.old.fresh ≡ true → DeliveriesStand (events_of steps.items trace.answers.items)) }

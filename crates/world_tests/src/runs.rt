@@ -26,7 +26,8 @@ fn a_list_of_steps_is_taken_to_its_end(rt: HostRuntime) {
     assert_answers(&rt, rt.alloc(), TO_ITS_END, ANSWERS);
 }
 
-// One node takes a message, and deletes it: each decree is a Prepare, a Promise, a Propose and a Voted, and the cancel_sm an Ask and a Tell.
+// One node takes a message, deletes it, and tells its receipt: each decree is a Prepare, a Promise, a Propose and a Voted, and the cancel_sm an
+// Ask and a Tell.
 const DELETION: &[Comes] = &[
     Comes::Asks(1, "submit_with_receipt"),
     Comes::Delivers(1, 1),
@@ -40,9 +41,13 @@ const DELETION: &[Comes] = &[
     Comes::Delivers(8, 1),
     Comes::Delivers(9, 1),
     Comes::Delivers(10, 1),
+    Comes::Delivers(11, 1),
+    Comes::Delivers(12, 1),
+    Comes::Delivers(13, 1),
+    Comes::Delivers(14, 1),
 ];
 
-const STATED: &[(usize, Final)] = &[(11, Final::Deleted), (11, Final::Deleted)];
+const STATED: &[(usize, Final)] = &[(11, Final::Deleted), (15, Final::Deleted)];
 
 #[test]
 fn a_deletion_is_stated_by_a_reply_and_by_a_receipt(rt: HostRuntime) {
@@ -61,8 +66,8 @@ const QUERY: &[Comes] = &[
     Comes::Delivers(6, 1),
 ];
 
-// By the reply, and by the receipt that is due once more.
-const STATED_AGAIN: &[(usize, Final)] = &[(7, Final::Deleted), (7, Final::Deleted)];
+// By the reply alone: the receipt came, and does not come once more.
+const STATED_AGAIN: &[(usize, Final)] = &[(7, Final::Deleted)];
 
 #[test]
 fn a_deletion_is_told_over_a_start_over(rt: HostRuntime) {
@@ -71,7 +76,7 @@ fn a_deletion_is_told_over_a_start_over(rt: HostRuntime) {
 
 #[test]
 fn the_step_that_told_a_deletion_is_listed(rt: HostRuntime) {
-    assert_told_by(&rt, rt.alloc(), DELETION, Comes::Delivers(10, 1));
+    assert_told_by(&rt, rt.alloc(), DELETION, Comes::Delivers(14, 1));
 }
 
 #[test]

@@ -1,4 +1,4 @@
-use Rattle.world_runs.proofs.Leading.{all_done, chosen_of, done_of, goes_on, known_of, later_of, leads_all, no_grant_of, one_fate_of}
+use Rattle.world_runs.proofs.Leading.{all_done, chosen_of, done_of, goes_on, known_of, later_of, leads_all, no_grant_of, one_fate_of, one_receipt_of}
 use Rattle.world_runs.proofs.Leading.{stand_in_runs, stands_of}
 use Rattle.world_runs.proofs.Stating.{agree}
 use Rattle.world_runs.proofs.running.run.Goals as goal
@@ -25,6 +25,13 @@ returns-clause-becomes c = (
 pub returns-clause-one_fate : goal.returns-clause-one_fate
 returns-clause-one_fate c =
     one_fate_of c.args.world.now c.loop-step.world c.args.steps.items c.loop-step.answers.items c.stands.ensures (
+    done_of c.args.world.now c.loop-step.world c.args.steps.items c.in_ok-copies.copies.items c.loop-step.answers.items c.in_ok-copies.ensures
+    (all_done c.args.world.now c.loop-step.world c.in_ok-copies.copies.items c.from_vec-left.result.items c.loop-step.left.items c.pop_front.new.self.items
+    c.loop-step.answers.items _ c.from_vec-left.ensures.items c.loop-step.invariant c.in_default.ensures.items c.in_default.ensures.rest))
+
+pub returns-clause-one_receipt : goal.returns-clause-one_receipt
+returns-clause-one_receipt c =
+    one_receipt_of c.args.world.now c.loop-step.world c.args.steps.items c.loop-step.answers.items c.stands.ensures (
     done_of c.args.world.now c.loop-step.world c.args.steps.items c.in_ok-copies.copies.items c.loop-step.answers.items c.in_ok-copies.ensures
     (all_done c.args.world.now c.loop-step.world c.in_ok-copies.copies.items c.from_vec-left.result.items c.loop-step.left.items c.pop_front.new.self.items
     c.loop-step.answers.items _ c.from_vec-left.ensures.items c.loop-step.invariant c.in_default.ensures.items c.in_default.ensures.rest))
