@@ -9,7 +9,7 @@ use Rattle.mc_model.specs.synod.Lists.{In}
 use Rattle.mc_model.specs.synod.OneSlot.{Vote}
 use Rattle.mc_model.specs.synod.Packet.{Ask, Packet, Prepare, Promise, Propose, Refused, Slot, Tell, TopVote, Voted}
 use Rattle.mc_model.specs.synod.Acceptor.{SlotRecord}
-use Rattle.mc_model.specs.node.FirstRule.{Close, Delete, Expire, Follow, GiveUp, Lose, Rule, Take, Try, Undeliver}
+use Rattle.mc_model.specs.node.FirstRule.{Announce, Close, Delete, Expire, Follow, GiveUp, Lose, Rule, Take, Try, Undeliver}
 use Rattle.mc_model.specs.node.Actor.{id_in}
 use Rattle.mc_model.specs.node.Input.{Arrival, Crash, Delivery, Grant, Input, Refusal, Response, Restart, Tick}
 use Rattle.mc_model.specs.node.Replies.{Answer}
@@ -21,13 +21,13 @@ use Rattle.node_model.specs.Kept.{Held, Kept, message_at, saved, with_message}
 use Rattle.node_model.specs.Outputs.{Stepped, leaves}
 use Rattle.node_model.specs.Answers.{answer_to}
 use Rattle.node_model.specs.Learner.{heard, makes_known}
-use Rattle.node_model.specs.Packets.{answer_told, heard_in, is_member, is_own_name, known_then, on_known, on_packet, on_voted, promised_in}
+use Rattle.node_model.specs.Packets.{answer_told, heard_in, is_member, is_own_name, known_then, on_known, on_packet, on_voted, promised_in, start_known}
 use Rattle.node_model.specs.Packets.{settled_for, settled_told, start_told, tell_held, tells_about, told_to, vote_concerns}
 use Rattle.node_model.specs.Proposer.{Prepared, Start, is_free, is_own_ballot, refused, runs_at, started}
 use Rattle.node_model.specs.Recorded.{recorded_in}
 use Rattle.node_model.specs.Requests.{begun, held_at, id_of, settled_by, told_by, with_held}
 use Rattle.node_model.specs.Rules.{Fitting, first_rule}
-use Rattle.node_model.specs.Starts.{delete_for, take_for}
+use Rattle.node_model.specs.Starts.{take_for}
 use Rattle.node_model.specs.Stepped.{opened_new, restarted, stepped, stepped_down, stepped_up}
 use Rattle.node_model.specs.Ticks.{given_up, ids_of, ruled, ruled_each, ticked, waits_too, without_round}
 use Rattle.node_model.specs.Attempts.{closed_by, concluded}
@@ -87,7 +87,7 @@ hears setup k id m vote lists =
     known : ListsRecorded (on_known setup k id m vote.chain).kept
     known =
         let new = put k id (known_then m vote.chain) lists in
-        let last = starts setup learned id (delete_for setup learned id learned.held (Some vote.chain)) (record { ascend = new.ascend; all = new.all }) in
+        let last = starts setup learned id (start_known setup learned id m.known vote.chain) (record { ascend = new.ascend; all = new.all }) in
         record { ascend = last.ascend; all = last.all }
 
 answers : (prepared : Prepared) (new : Held) (answer : Option Answer) → ListsRecorded prepared.kept → ListsRecorded (answer_told prepared new answer).kept
@@ -144,6 +144,7 @@ gives_up Undeliver k id place lists = lists
 gives_up Expire k id place lists = lists
 gives_up Delete k id place lists = lists
 gives_up Follow k id place lists = lists
+gives_up Announce k id place lists = lists
 
 rules_one : (setup : Setup) (k : Kept) (id : ℕ) (fit : Option Fitting) → ListsRecorded k → ListsRecorded (ruled setup k id fit).kept
 rules_one setup k id None lists = lists

@@ -1,7 +1,8 @@
 -- What a journal tells, as a run of its cluster.
-use Rattle.std.proofs.Common.{◌≡◌, ℕ, Bool, true, false, List, [], ◌∷◌, ◌++◌, Option, Some, None, Ok, refl, sym, ap, subst, ◌∙◌}
+use Rattle.std.proofs.Common.{◌≡◌, ℕ, ◌+◌, ◌≤◌, Bool, true, false, List, [], ◌∷◌, ◌++◌, Option, Some, None, Ok, refl, sym, ap, subst, ◌∙◌, arith}
 use Rattle.std.specs.Prelude.{map, if◌then◌else◌}
 use Rattle.std.proofs.lemmas.List.{append-nil}
+use Rattle.std.proofs.lemmas.List.Concat.{flat_map-append}
 use Rattle.mc_model.specs.message.Decree.{Decree, Delivered, Final}
 use Rattle.mc_model.specs.synod.Lists.{In}
 use Rattle.mc_model.specs.synod.Packet.{Packet, Slot, slot_of}
@@ -15,24 +16,25 @@ use Rattle.node_model.specs.Kept.{Kept}
 use Rattle.node_model.specs.Outputs.{nothing}
 use Rattle.node_model.specs.Stepped.{stepped, stepped_down, stepped_up}
 use Rattle.node_laws.specs.Chosen.{WasVotedFor}
-use Rattle.node_laws.specs.Clusters.{MayHappen, NodeInput, StatesFinal, kept_reached, outputs_at, step_at}
+use Rattle.node_laws.specs.Clusters.{MayHappen, NodeInput, StatesFinal, cluster_outputs, kept_reached, outputs_at, receipts_given, step_at}
 use Rattle.node_laws.proofs.cluster.Delivered.{delivered}
+use Rattle.node_laws.proofs.cluster.OneReceipt.{count_both, count_of}
 use Rattle.node_laws.proofs.cluster.Sources.{may_until}
 use Rattle.delivery.specs.declared.outcome.Outcome.TheVariants as outcomes
 use Rattle.node_core.specs.Stops.{is_after}
 use Rattle.world.specs.declared.given.Given.{Given}
 use Rattle.world.specs.declared.step.Step.TheVariants as steps
 use Rattle.world.specs.Runs.{IsGiven, given_out, node_at}
-use Rattle.world_runs.specs.Traces.{Answer, Event, Reaches, Tried, answers_in, events_of}
+use Rattle.world_runs.specs.Traces.{Answer, Event, Reaches, Tried, answers_in, events_of, told_in}
 use Rattle.world_runs.specs.Traces.{IsAnsweredLater as IsEventAnswered, StandsOnAnAttempt as EventsStand}
 use Rattle.world_runs.proofs.Asking.{accepted_are_known, later_queries_are_told}
 use Rattle.world_runs.proofs.Events.{ReachesBy, goes_on_by, reached_by}
 use Rattle.world_runs.proofs.Standing.{deliveries_stand}
-use Rattle.world_runs.proofs.Tracing.{grants_none, one_fate, states_given, states_nothing}
+use Rattle.world_runs.proofs.Tracing.{grants_none, one_fate, one_in_run, states_given, states_nothing}
 use Rattle.world_runs.proofs.Voting.{chosen_before}
-use Rattle.journal_laws.specs.Journals.{Done, Entry, IsJournal, RunsOn, Unfinished, answers_given, done_in, steps_done, steps_for}
+use Rattle.journal_laws.specs.Journals.{Done, Entry, IsJournal, RunsOn, Unfinished, answers_given, done_in, steps_done, steps_for, stop_of}
 use Rattle.journal_laws.specs.Telling.{AcceptedAreKnown, AreChosen, DeliveriesStand, DeliveriesStandInTheRun, GrantNoneAfterAFate, IsAnsweredLater}
-use Rattle.journal_laws.specs.Telling.{IdsAreNotRefusedAtOnce, LaterQueriesAreTold, StandsOnAnAttempt, TellOneFate, told_by}
+use Rattle.journal_laws.specs.Telling.{IdsAreNotRefusedAtOnce, LaterQueriesAreTold, StandsOnAnAttempt, TellOneFate, TellOneReceipt, told_by}
 use Rattle.journal_laws.specs.Joining.{IsCut}
 use Rattle.journal_laws.proofs.Entries.{IsNoStop, before_it, done_among, done_at, events_tried, found, front_of, in_made, lives_by, lives_tried}
 use Rattle.journal_laws.proofs.Entries.{tried, tried_among, tried_in}
@@ -49,6 +51,38 @@ answers_all (done ∷ later) = ap (λ (answers : List Answer). answer done ∷ a
 
 answer_among : (entries : List Entry) (entry : Entry) → In entry entries → In (answer entry.done) (answers_given entries)
 answer_among entries entry among = in_made answer entry.done (done_in entries) (done_among entries entry among)
+
+-- ---- receipts
+
+module _ (id : ℕ) where
+  -- how many of a message these steps told
+  abbrev told_of : List Done → ℕ
+  told_of taken = count_of id (receipts_given (map told_in (map answer taken)))
+
+  -- and how many these entries tell
+  abbrev entries_tell : List Entry → ℕ
+  entries_tell entries = count_of id (receipts_given (map told_by entries))
+
+  one_more : (done : Done) (taken : List Done) → told_of (done ∷ taken) ≡ count_of id (given_out done.given).receipts + told_of taken
+  one_more done taken = count_both id (given_out done.given).receipts (receipts_given (map told_in (map answer taken)))
+
+  -- an entry that names an unfinished save stands for two steps
+  entry_told : (done : Done) (save : Option Unfinished) (taken : List Done) →
+      count_of id (given_out done.given).receipts + told_of taken ≤ told_of (steps_for done save ++ taken)
+  entry_told done None taken = let one = one_more done taken in omega (arith, one)
+  entry_told done (Some save) taken =
+      let one = one_more done taken in
+      let stop = one_more (stop_of done save) (done ∷ taken) in
+      omega (arith, one, stop)
+
+  all_told : (entries : List Entry) → entries_tell entries ≤ told_of (done_in entries)
+  all_told [] = omega arith
+  all_told (entry ∷ entries) =
+      let here : entries_tell (entry ∷ entries) ≡ count_of id (given_out entry.done.given).receipts + entries_tell entries =
+      count_both id (given_out entry.done.given).receipts (receipts_given (map told_by entries)) in
+      let first = entry_told entry.done entry.unfinished (done_in entries) in
+      let later = all_told entries in
+      omega (arith, here, first, later)
 
 -- a stop gives nothing out
 stop_quiet : (setup : Setup) (k : Kept) (packet : Packet) (after : Bool) → (stepped setup k (Crash packet after)).outputs ≡ nothing
@@ -154,6 +188,18 @@ module _ (cluster : Cluster) (behind : List Packet) (inputs : List NodeInput) (e
       one_fate cluster inputs (tried_in entries) way.last reaches way.may (answer one.done) (answer other.done) id first second
       (subst (In (answer one.done)) (sym (answers_all (done_in entries))) (answer_among entries one among))
       (subst (In (answer other.done)) (sym (answers_all (done_in entries))) (answer_among entries other also)) says tells
+
+  pub tells_one_receipt : TellOneReceipt cluster inputs entries
+  tells_one_receipt id =
+      let before = cluster_outputs cluster inputs in
+      let both : count_of id (receipts_given (before ++ map told_by entries)) ≡ count_of id (receipts_given before) + entries_tell id entries =
+      ap (count_of id) (flat_map-append (λ (outputs : Outputs). outputs.receipts) before (map told_by entries))
+      ∙ count_both id (receipts_given before) (receipts_given (map told_by entries)) in
+      let told : count_of id (receipts_given (map told_in (answers_in (tried_in entries)))) ≡ told_of id (done_in entries) =
+      ap (λ (answers : List Answer). count_of id (receipts_given (map told_in answers))) (answers_all (done_in entries)) in
+      let most = one_in_run cluster inputs (tried_in entries) way.last reaches way.may id in
+      let within = all_told id entries in
+      omega (arith, both, told, most, within)
 
   pub grants_nothing_after : GrantNoneAfterAFate entries
   grants_nothing_after older granting newer telling id final split among says grants =

@@ -1,5 +1,5 @@
 -- The headline, and what later requests are answered, in the words of a journal (own).
-use Rattle.std.specs.Prelude.{◌≡◌, ℕ, List, ◌∷◌, ◌++◌, Some, reverse}
+use Rattle.std.specs.Prelude.{◌≡◌, ℕ, List, ◌∷◌, ◌++◌, Some, map, reverse}
 use Rattle.mc_model.specs.message.Decree.{Attempt, Decree, Delivered, Fate, Final}
 use Rattle.mc_model.specs.message.Chain.{final_in, untold}
 use Rattle.mc_model.specs.synod.Lists.{In}
@@ -9,7 +9,7 @@ use Rattle.mc_model.specs.node.Replies.{Accepted, Answer, Shown, Unknown}
 use Rattle.mc_model.specs.cluster.Steps.{Cluster}
 use Rattle.node_model.specs.Kept.{Kept}
 use Rattle.node_laws.specs.Chosen.{WasVotedFor}
-use Rattle.node_laws.specs.Clusters.{GrantsOut, IsDeliveredBy, NodeInput, StatesFinal}
+use Rattle.node_laws.specs.Clusters.{GrantsOut, IsDeliveredBy, NodeInput, OneOfEach, StatesFinal, cluster_outputs, receipts_given}
 use Rattle.delivery.specs.declared.outcome.Outcome.TheVariants as outcomes
 use Rattle.desk.specs.declared.request.Request.{Request}
 use Rattle.desk.specs.declared.request.Request.TheVariants as asked
@@ -30,6 +30,10 @@ abbrev pub TellOneFate : List Entry → Type 0
 TellOneFate entries =
     (one other : Entry) (id : ℕ) (first second : Final) → In one entries → In other entries →
     StatesFinal (told_by one) id first → StatesFinal (told_by other) id second → first ≡ second
+
+-- Of each message_id one receipt at most is told, by the run that led to the journal and by its entries together.
+abbrev pub TellOneReceipt : Cluster → List NodeInput → List Entry → Type 0
+TellOneReceipt cluster inputs entries = OneOfEach (receipts_given (cluster_outputs cluster inputs ++ map told_by entries))
 
 -- Behind an entry that told a final state of a message, as DELETED by ESME_ROK to its cancel_sm, none grants an attempt of it.
 abbrev pub GrantNoneAfterAFate : List Entry → Type 0

@@ -34,6 +34,7 @@ ghost use Rattle.journal_laws.specs.Telling.{
   IdsAreNotRefusedAtOnce,
   LaterQueriesAreTold,
   TellOneFate,
+  TellOneReceipt,
 };
 
 use stable_store::StableStore;
@@ -129,6 +130,13 @@ pub fn a_run_is_a_journal()
 pub fn a_journal_tells_one_fate()
     ensures { (cluster : Cluster) (behind : List Packet) (inputs : List NodeInput) (entries : List Entry) (ends : ℕ → Kept) →
         IsJournal cluster behind inputs entries ends → TellOneFate entries }
+{}
+
+/// And of each message_id one receipt at most is told, by the run that led to the journal and by its entries together, however often nodes start anew: so
+/// none is told again over the stores that a run left.
+pub fn a_journal_tells_one_receipt()
+    ensures { (cluster : Cluster) (behind : List Packet) (inputs : List NodeInput) (entries : List Entry) (ends : ℕ → Kept) →
+        IsJournal cluster behind inputs entries ends → TellOneReceipt cluster inputs entries }
 {}
 
 /// And behind an entry that told a final state of a message, as DELETED by ESME_ROK to its cancel_sm, none grants an attempt of it.

@@ -11,6 +11,7 @@ ghost use Rattle.journal_laws.specs.Telling.{
   IdsAreNotRefusedAtOnce,
   LaterQueriesAreTold,
   TellOneFate,
+  TellOneReceipt,
 };
 ghost use Rattle.journal_parts.specs.Closing.{AllStand, Behind, IsClosed, entries_in};
 ghost use Rattle.journal_parts.specs.Marks.{EachOnce};
@@ -48,6 +49,8 @@ impl<S: StableStore + Drop, L: Begins> Cluster<S, L> {
         ensures each { IfOk result (λ journal. EachOnce (length (entries_in journal)) seats.items) }
         ensures stand { IfOk result (λ journal. AllStand L.numbers.count (entries_in journal) seats.items) }
         ensures fate { IfOk result (λ journal. Behind S.stored L.cluster L.kept L.numbers journal (λ behind inputs. TellOneFate (entries_in journal))) }
+        ensures receipts { IfOk result (λ journal. Behind S.stored L.cluster L.kept L.numbers journal
+            (λ behind inputs. TellOneReceipt L.cluster inputs (entries_in journal))) }
         ensures grants { IfOk result (λ journal. Behind S.stored L.cluster L.kept L.numbers journal
             (λ behind inputs. GrantNoneAfterAFate (entries_in journal))) }
         ensures chosen { IfOk result (λ journal. Behind S.stored L.cluster L.kept L.numbers journal

@@ -10,6 +10,7 @@ use Rattle.journal_laws.proofs.Telling.{
   ids_known,
   queries_told,
   tells_one_fate,
+  tells_one_receipt,
 }
 use Rattle.journal_parts.specs.Closing.{entries_in}
 use Rattle.node_threads.proofs.Behind.{behind}
@@ -18,6 +19,12 @@ use Rattle.node_threads.proofs.cluster.Cluster.close.Goals as goal
 pub returns-in-Ok-clause-fate : goal.returns-in-Ok-clause-fate
 returns-in-Ok-clause-fate g c = λ sure packets have before inputs lead.
     tells_one_fate g.L.Begins.cluster before inputs (entries_in c.into_journal.result) c.into_journal.ensures.closed.ends
+    (behind g.S.StableStore.stored g.L.Begins.cluster g.L.Begins.kept g.L.Begins.numbers c.into_journal.result c.into_journal.ensures.closed sure packets have
+    before inputs lead)
+
+pub returns-in-Ok-clause-receipts : goal.returns-in-Ok-clause-receipts
+returns-in-Ok-clause-receipts g c = λ sure packets have before inputs lead.
+    tells_one_receipt g.L.Begins.cluster before inputs (entries_in c.into_journal.result) c.into_journal.ensures.closed.ends
     (behind g.S.StableStore.stored g.L.Begins.cluster g.L.Begins.kept g.L.Begins.numbers c.into_journal.result c.into_journal.ensures.closed sure packets have
     before inputs lead)
 
