@@ -15,8 +15,8 @@ use Rattle.node_model.specs.Stepped.{stepped}
 use Rattle.node_model.specs.Stepped as steps
 use Rattle.table_laws.specs.Alone.{alone}
 use Rattle.table_laws.specs.Resting.{IsResting}
-use Rattle.table_laws.specs.Tables.{MayCome, TableNode, chain_at, decree_by, decreed, extended, is_deleted, is_meant, receipts_by}
-use Rattle.table_laws.specs.Tables.{reply_to, requested, table_by}
+use Rattle.table_laws.specs.Tables.{MayCome, TableNode, chain_at, decree_by, decreed, is_deleted, is_meant, receipts_by}
+use Rattle.table_laws.specs.Tables.{reply_to, requested, settled, table_by}
 use Rattle.table_laws.proofs.AnyRequest.{request_settles, ticket_given}
 use Rattle.table_laws.proofs.Frames.{eqb_self}
 use Rattle.table_laws.proofs.Submits.{none_if_not_given}
@@ -61,7 +61,7 @@ module _ (k : Kept) (t : TableNode) (resting : IsResting k t) (sessions : List (
 
   decreed_waits : (id : ℕ) (kind : Kind) → (IsUnderway (chain_at t.table id) → ⊥) → AreWaiting (decreed t id kind) sessions
   decreed_waits id kind idle =
-      waiting_with t.table sessions waiting id (extended (chain_at t.table id) (decree_by t (chain_at t.table id) kind))
+      waiting_with t.table sessions waiting id (settled t (chain_at t.table id) (decree_by t (chain_at t.table id) kind))
       (off_unless t.table sessions waiting id (λ underway granted. idle underway))
 
   request_waits : (request : Request) → MayCome t request → AreWaiting (table_by t request) sessions

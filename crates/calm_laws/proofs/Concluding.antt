@@ -13,7 +13,7 @@ use Rattle.table_laws.specs.Alone.{alone}
 use Rattle.table_laws.specs.Attempts.{concluded_at, newest_slot, receipts_on}
 use Rattle.table_laws.specs.Resting.{IsAtRest, IsResting}
 use Rattle.table_laws.specs.Settling.{SettlesOn}
-use Rattle.table_laws.specs.Tables.{Entry, TableNode, chain_at, decree_by, entry_at, extended}
+use Rattle.table_laws.specs.Tables.{Entry, TableNode, chain_at, decree_by, entry_at, settled}
 use Rattle.table_laws.proofs.Granting.{response_settles}
 use Rattle.script_text.specs.Left.{rests}
 use Rattle.script_text.specs.Settings.{Settings}
@@ -61,7 +61,7 @@ module _ (settings : Settings) (first left : ℕ) (one : OneNode) (k : Kept) (fi
       (response_settles first settings.validity k t slot.id resting (some_underway (chain_at t.table slot.id) newest.underway) outcome)
 
   abbrev after : Entry
-  after = extended (chain_at t.table slot.id) (decree_by t (chain_at t.table slot.id) (decree_of outcome))
+  after = settled t (chain_at t.table slot.id) (decree_by t (chain_at t.table slot.id) (decree_of outcome))
 
   fit_then : IsFit (concludes one slot.id outcome)
   fit_then = record {

@@ -12,7 +12,7 @@ use Rattle.mc_model.specs.node.Actor.{Cancel, Query, Request, Submit}
 use Rattle.mc_model.specs.node.Grant.{GrantRefusal}
 use Rattle.mc_model.specs.node.Outcome.{Outcome, decree_of}
 use Rattle.table_laws.specs.Attempts.{granted_at, refusal_at}
-use Rattle.table_laws.specs.Tables.{Entry, Table, TableNode, chain_at, decree_by, decreed, entry_at, extended, is_deleted, table_by}
+use Rattle.table_laws.specs.Tables.{Entry, Table, TableNode, chain_at, decree_by, decreed, entry_at, is_deleted, settled, table_by}
 use Rattle.table_laws.specs.Ticks.{at_clock, entry_then}
 use Rattle.pdu_tables.specs.CommandCodes.{command_of}
 use Rattle.pdu_tables.specs.declared.status.Status.{Status}
@@ -60,7 +60,7 @@ same_length : (table : Table) → IsLonger table table
 same_length table = omega arith
 
 decreed_longer : (t : TableNode) (id : ℕ) (kind : Kind) → IsLonger t.table (decreed t id kind)
-decreed_longer t id kind = longer t.table id (extended (chain_at t.table id) (decree_by t (chain_at t.table id) kind))
+decreed_longer t id kind = longer t.table id (settled t (chain_at t.table id) (decree_by t (chain_at t.table id) kind))
 
 request_longer : (t : TableNode) (request : Request) → IsLonger t.table (table_by t request)
 request_longer t (Submit id message) = decreed_longer t id (Taken message)

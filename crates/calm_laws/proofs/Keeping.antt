@@ -8,7 +8,6 @@ use Rattle.std.specs.BTreeMap.{insert_entry}
 use Rattle.std.proofs.lemmas.Bool.{and_parts}
 use Rattle.std.proofs.lemmas.List.{map-append}
 use Rattle.table_laws.specs.Attempts.{refusal_at}
-use Rattle.table_laws.specs.Ticks.{ticked}
 use Rattle.table_laws.proofs.Opening.{new_rests}
 use Rattle.pdu_frames.specs.Frames.{Cut, begins_wrong, cut}
 use Rattle.script_lines.specs.Lines.{lines_of}
@@ -20,7 +19,7 @@ use Rattle.delivery.specs.Targets.{is_up}
 use Rattle.script_text.specs.Runner.{Acted, Runner, held_in, on_grant, on_octets, on_tick, runner_opened}
 use Rattle.script_text.specs.World.{Moved, World, acts, most_deliveries, node_opened, on_settle, opened}
 use Rattle.script_text.specs.Events.{Event, Heard, Comes, Ticks, Grants, Settles, Play, and_then, events_from, heard_by, play_from, play_of_lines}
-use Rattle.script_text.specs.OneNode.{OneNode, granted_unless, happen, happens, one_node, one_node_text, played, prints_if, settled, ticks}
+use Rattle.script_text.specs.OneNode.{OneNode, granted_unless, happen, happens, one_node, one_node_text, played, prints_if, settled, ticks_up}
 use Rattle.script_text.specs.Calm.{IsCalm, are_calm, may_happen, pushed_in, tick_stir}
 use Rattle.script_text.specs.Script.{Stage, Stepped, after, bad_from, bad_line, moved_by, prints_from, step_by, step_of, stepped, text_of}
 use Rattle.script_text.proofs.Texts.{at_node}
@@ -127,7 +126,7 @@ module _ (settings : Settings) (first : ℕ) (lines : List (List ℕ)) (behind :
   unfolding are_calm happen happens
   tick_calm node moment is tail tail_is runs calm small =
       let act : Runner → Acted = λ r. on_tick r moment in
-      let happened = ticks one (ticked one.node moment (is_up (accounts_up one.sessions))) in
+      let happened = ticks_up one moment (is_up (accounts_up one.sessions)) in
       let parts = and_parts (may_happen quiet (tick_stir (pushed_in one))) (are_calm settings happened.next false tail) calm in
       let (leaves, prints) = tick_leaves settings first (length tail) quiet one streams runner moment parts.0 runs in
       let gone : Went settings first one streams (on_tick runner moment) tail (Ticks moment ∷ tail) = record {

@@ -19,13 +19,13 @@ use Rattle.node_model.specs.Learner.{heard, makes_known}
 use Rattle.node_model.specs.Message.{Message, Round}
 use Rattle.node_model.specs.Outputs.{Stepped, leaves, sends}
 use Rattle.node_model.specs.Packets.{answer_told, if_member, is_member, is_own_name, known_then, on_known, on_packet, on_promise}
-use Rattle.node_model.specs.Packets.{on_refused, on_tell, on_voted, promised_in, proposals, settled_for, settled_told, start_told}
-use Rattle.node_model.specs.Packets.{tell_held, tells_about, told_to, vote_concerns}
+use Rattle.node_model.specs.Packets.{on_refused, on_tell, on_voted, promised_in, proposals, settled_for, settled_told}
+use Rattle.node_model.specs.Packets.{start_known, start_told, tell_held, tells_about, told_to, vote_concerns}
 use Rattle.node_model.specs.Proposer.{Prepared, Start, completes, highest_round, is_free, is_own_ballot, offered, prepared_at, promised_by}
 use Rattle.node_model.specs.Proposer.{refused, runs_at, started}
 use Rattle.node_model.specs.Requests.{asks, begun, held_at, id_of, is_untold, settled_by, told_by, with_held}
 use Rattle.node_model.specs.Rules.{Fitting, first_rule}
-use Rattle.node_model.specs.Starts.{delete_for, take_for}
+use Rattle.node_model.specs.Starts.{take_for}
 use Rattle.node_model.specs.Stepped.{sender_of, stepped, stepped_down, stepped_up}
 use Rattle.node_model.specs.Ticks.{asked_again, given_up, ids_of, question, ruled, ruled_each, ticked, waits_too}
 use Rattle.node_laws.proofs.invariant.Orders.{in_mapped}
@@ -122,7 +122,7 @@ module _ (setup : Setup) where
       by_test false = none_sent setup.node
 
   known_sends : (k : Kept) (id : ℕ) (m : Message) (chain : List Decree) → SendsOwn setup (on_known setup k id m chain)
-  known_sends k id m chain = start_sent knowing id (delete_for setup knowing id knowing.held (Some chain))
+  known_sends k id m chain = start_sent knowing id (start_known setup knowing id m.known chain)
     where
       knowing : Kept
       knowing = record (with_message k id (known_then m chain)) { held = map (settled_for setup.nodes id chain) k.held }

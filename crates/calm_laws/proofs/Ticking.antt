@@ -12,7 +12,7 @@ use Rattle.node_model.specs.Stepped.{stepped}
 use Rattle.table_laws.specs.Alone.{alone}
 use Rattle.table_laws.specs.Settling.{SettlesOn}
 use Rattle.table_laws.specs.Tables.{Table, TableNode}
-use Rattle.table_laws.specs.Ticks.{receipts_between, ticked}
+use Rattle.table_laws.specs.Ticks.{receipts_ticked, ticked}
 use Rattle.table_laws.proofs.Clocked.{tick_settles}
 use Rattle.sessions.specs.Session.{Session}
 use Rattle.sessions.specs.Steps.{on_tick as timely}
@@ -27,7 +27,7 @@ use Rattle.delivery.specs.Targets.{is_up}
 use Rattle.script_text.specs.Receipts.{posted_for_all}
 use Rattle.script_text.specs.Runner.{Acted, Owned, Runner, Told, answered, gives_up, gives_up_by, mail_of, makes_room}
 use Rattle.script_text.specs.Runner.{on_tick, posts_for_all, session_in, session_or_opened, told, with_posted}
-use Rattle.script_text.specs.OneNode.{OneNode, ticks}
+use Rattle.script_text.specs.OneNode.{OneNode, ticks_up}
 use Rattle.script_text.specs.Calm.{may_happen, pushed_in, tick_stir}
 use Rattle.calm_laws.proofs.Connected.{AreConnected, EntryIs}
 use Rattle.calm_laws.proofs.Posting.{for_all_alike}
@@ -106,13 +106,16 @@ module _ (settings : Settings) (first left : ℕ) (one : OneNode) (streams : Lis
   abbrev then : TableNode
   then = ticked t moment (is_up (accounts_up one.sessions))
 
+  abbrev now_receipts : List (List ℕ) → List Receipt
+  now_receipts up = receipts_ticked t moment (is_up up)
+
   -- the one node, before what waits goes out
   abbrev ticked_one : OneNode
-  ticked_one = record one { node = then; due = one.due ++ receipts_between t.table then.table }
+  ticked_one = record one { node = then; due = one.due ++ now_receipts (accounts_up one.sessions) }
 
   -- a runner and the one node then
   abbrev Ticked : Acted → Type 0
-  Ticked acted = AreDone settings first left false streams acted (ticks one then)
+  Ticked acted = AreDone settings first left false streams acted (ticks_up one moment (is_up (accounts_up one.sessions)))
 
   abbrev now : Runner
   now = record runner { node = node_of settings first runner.node.kept }
@@ -125,9 +128,6 @@ module _ (settings : Settings) (first left : ℕ) (one : OneNode) (streams : Lis
 
   abbrev step : Stepped
   step = stepped setup runner.node.kept (tick_at moment (accounts_up runner.sessions))
-
-  abbrev now_receipts : List (List ℕ) → List Receipt
-  now_receipts up = receipts_between t.table (ticked t moment (is_up up)).table
 
   on : SettlesOn setup step then [] (now_receipts (accounts_up one.sessions))
   on =
@@ -156,8 +156,8 @@ module _ (settings : Settings) (first left : ℕ) (one : OneNode) (streams : Lis
   told_runs = record {
     holds = None;
     agree =
-        stepped_on settings first left ticked_one runner.node.kept step (receipts_between t.table then.table) fit_then room_left on quiet.owed
-        (ap (λ (receipts : List Receipt). receipts ++ receipts_between t.table then.table) quiet.due);
+        stepped_on settings first left ticked_one runner.node.kept step (now_receipts (accounts_up one.sessions)) fit_then room_left on quiet.owed
+        (ap (λ (receipts : List Receipt). receipts ++ now_receipts (accounts_up one.sessions)) quiet.due);
     still = tt;
     held = runs.held;
     sessions = were;
@@ -194,7 +194,7 @@ module _ (settings : Settings) (first left : ℕ) (one : OneNode) (streams : Lis
 
 pub tick_leaves : (settings : Settings) (first left : ℕ) (quiet : Bool) (one : OneNode) (streams : List (ℕ × List ℕ)) (runner : Runner) (moment : ℕ) →
     may_happen quiet (tick_stir (pushed_in one)) ≡ true → Runs settings first (suc left) quiet one streams runner →
-    AreDone settings first left false streams (on_tick runner moment) (ticks one (ticked one.node moment (is_up (accounts_up one.sessions))))
+    AreDone settings first left false streams (on_tick runner moment) (ticks_up one moment (is_up (accounts_up one.sessions)))
 tick_leaves settings first left quiet one streams runner moment may runs =
     let parts = tick_quiet quiet (pushed_in one) may in
     let runs_quiet : Runs settings first (suc left) true one streams runner =
@@ -202,6 +202,6 @@ tick_leaves settings first left quiet one streams runner moment may runs =
     let nodes = quiet_now settings first (suc left) one runs_quiet.holds runner.node runs_quiet.agree runs_quiet.still in
     subst
     (λ (node : Node). AreDone settings first left false streams (on_tick (record runner { node = node }) moment)
-    (ticks one (ticked one.node moment (is_up (accounts_up one.sessions)))))
+    (ticks_up one moment (is_up (accounts_up one.sessions))))
     (sym nodes.node_is)
     (quiet_ticks settings first left one streams runner moment runs_quiet (subst (AreQuiet settings first (suc left) one) nodes.node_is nodes) parts.1)

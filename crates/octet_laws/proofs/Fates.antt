@@ -1,6 +1,6 @@
 -- What the octets of a print tell of a fate is what the print states.
-use Rattle.std.proofs.Common.{◌≡◌, ◌⊎◌, ℕ, ◌-◌, ◌/◌, ◌%◌, Bool, true, false, List, [], ◌++◌, Option, Some, None, refl, sym, ap, subst, ◌∙◌, inl, inr, arith}
-use Rattle.std.proofs.Common.{append-nil}
+use Rattle.std.proofs.Common.{◌≡◌, ◌⊎◌, ℕ, ◌<◌, ◌^◌, ◌-◌, ◌/◌, ◌%◌, Bool, true, false, List, [], ◌++◌, Option, Some, None, refl, sym}
+use Rattle.std.proofs.Common.{ap, subst, ◌∙◌, inl, inr, arith, append-nil}
 use Rattle.std.specs.Prelude.{codes}
 use Rattle.std.specs.List.{AllByRecursion}
 use Rattle.std.specs.Int.Bits.{and_zero_r}
@@ -26,7 +26,7 @@ use Rattle.receipts.specs.Receipts.{receipt_message}
 use Rattle.receipts.specs.Texts.{Report, receipt_text}
 use Rattle.sessions.specs.declared.requested.Requested.{Requested}
 use Rattle.script_lines.specs.Lines.{lines_of}
-use Rattle.script_text.specs.Laws.{StatesFate, TellsState, pdu_in}
+use Rattle.script_text.specs.Laws.{StatesFate, TellsReceipt, TellsState, pdu_in}
 use Rattle.script_text.specs.Prints.{AtOnce, Declined, Delivers, Gone, Late, Print, Reports, Ungranted, report_pdu}
 use Rattle.script_text.specs.Pushes.{knows_optional, with_optional}
 use Rattle.script_text.specs.Responses.{final_date_of, reply_pdu}
@@ -168,6 +168,11 @@ features_are_none esm_class = and_assoc 0x3c esm_class 0xc0 ∙ and_zero_r esm_c
 
 -- ---- a print
 
+-- a print is a receipt of the message of a message_id, which is a short number
+pub record PrintsReceipt (printed : Print) (message_id : List ℕ) (state : ℕ) : Type 0 where
+  pub tells : TellsReceipt printed message_id state
+  pub small : tells.report.id < 2 ^ 64
+
 module _ (past : List NodeInput) (clear : (message : Submission) → WasSubmitted past message → IsClear message) (message_id : List ℕ) (state : ℕ) where
   queries : (printed : Print) (pdu : Pdu) (octets : List ℕ) → pdu_in printed ≡ Some pdu → IsMade past printed → IsFrontRead (octets_of pdu) octets →
       (answer : QueryAnswer) → IsPdu octets query_sm_resp esme_rok query_answer_parts (query_answer_contents answer) → answer.message_id ≡ message_id →
@@ -199,45 +204,52 @@ module _ (past : List NodeInput) (clear : (message : Submission) → WasSubmitte
   queries (Declined number) pdu octets is made are answer spelled message state_is = absurd cc
   queries (Ungranted reason) pdu octets is made are answer spelled message state_is = absurd cc
 
-  states : (printed : Print) (pdu : Pdu) (octets : List ℕ) → pdu_in printed ≡ Some pdu → IsMade past printed → IsFrontRead (octets_of pdu) octets →
-      AnswersState octets message_id state ⊎ ReportsState octets message_id state → StatesFate printed message_id state
-  states printed pdu octets is made are (inl answers) =
-      inl (queries printed pdu octets is made are answers.answer answers.pdu answers.message answers.state_is, answers.final)
-  states (AtOnce session own) pdu octets is made are (inr reports) =
-      let it = deliver_back pdu.body reports.message (message_read pdu octets are reports.status reports.message reports.pdu) in
+  reports : (printed : Print) (pdu : Pdu) (octets : List ℕ) → pdu_in printed ≡ Some pdu → IsMade past printed → IsFrontRead (octets_of pdu) octets →
+      ReportsState octets message_id state → PrintsReceipt printed message_id state
+  reports (AtOnce session own) pdu octets is made are told =
+      let it = deliver_back pdu.body told.message (message_read pdu octets are told.status told.message told.pdu) in
       absurd (made.1 it.message (ap (λ (p : Pdu). p.body) (some_pdu own pdu is) ∙ it.body_is))
-  states (Late session id own) pdu octets is made are (inr reports) =
-      let it = deliver_back pdu.body reports.message (message_read pdu octets are reports.status reports.message reports.pdu) in
+  reports (Late session id own) pdu octets is made are told =
+      let it = deliver_back pdu.body told.message (message_read pdu octets are told.status told.message told.pdu) in
       let reply : pdu ≡ reply_pdu made.requested made.sequence made.id made.answer = sym (some_pdu own pdu is) ∙ made.is in
       absurd (reply_delivers_none made.requested made.sequence made.id made.answer it.message (ap (λ (p : Pdu). p.body) (sym reply) ∙ it.body_is))
-  states (Delivers session own) pdu octets is made are (inr reports) =
-      let it = deliver_back pdu.body reports.message (message_read pdu octets are reports.status reports.message reports.pdu) in
+  reports (Delivers session own) pdu octets is made are told =
+      let it = deliver_back pdu.body told.message (message_read pdu octets are told.status told.message told.pdu) in
       let optional = knows_optional made.session in
       let message = message_same (with_optional optional (delivered_message made.taken)) it.message
       (ap (λ (p : Pdu). p.body) (sym made.is ∙ some_pdu own pdu is) ∙ it.body_is) in
       let agrees = it.agrees (subst IsClearInFront message (delivered_clear optional made.taken (clear made.taken made.submitted))) in
       let esm_class = agrees.0 ∙ ap (λ (m : Message). m.esm_class) (sym message) ∙ delivered_features optional made.taken in
-      let none = sym (features_are_none made.taken.esm_class) ∙ ap message_type (sym esm_class) ∙ reports.receipt in
+      let none = sym (features_are_none made.taken.esm_class) ∙ ap message_type (sym esm_class) ∙ told.receipt in
       absurd (omega (arith, none))
-  states (Reports session sequence optional report) pdu octets is made are (inr reports) =
-      let it = deliver_back pdu.body reports.message (message_read pdu octets are reports.status reports.message reports.pdu) in
+  reports (Reports session sequence optional report) pdu octets is made are told =
+      let it = deliver_back pdu.body told.message (message_read pdu octets are told.status told.message told.pdu) in
       let message = message_same (with_optional optional (receipt_message report)) it.message
       (ap (λ (p : Pdu). p.body) (some_pdu (report_pdu sequence optional report) pdu is) ∙ it.body_is) in
-      let agrees = it.agrees (subst IsClearInFront message (reported_clear optional report (clear report.taken made))) in
+      let agrees = it.agrees (subst IsClearInFront message (reported_clear optional report (clear report.taken made.0))) in
       let text = agrees.1 ∙ ap (λ (m : Message). m.short_message) (sym message) ∙ reported_text optional report in
-      let told = receipt_told report message_id state (subst (λ (t : List ℕ). IsReceiptText t message_id state) text reports.text) in
-      inr (inr (record {
-        session = session;
-        sequence = sequence;
-        optional = optional;
-        report = report;
-        printed = refl;
-        message = told.0;
-        state_is = told.1;
-      }))
-  states (Gone session) pdu octets is made are tells = absurd cc
-  states (Declined number) pdu octets is made are tells = absurd cc
-  states (Ungranted reason) pdu octets is made are tells = absurd cc
+      let tells = receipt_told report message_id state (subst (λ (t : List ℕ). IsReceiptText t message_id state) text told.text) in
+      record {
+        tells = record {
+          session = session;
+          sequence = sequence;
+          optional = optional;
+          report = report;
+          printed = refl;
+          message = tells.0;
+          state_is = tells.1;
+        };
+        small = made.1;
+      }
+  reports (Gone session) pdu octets is made are told = absurd cc
+  reports (Declined number) pdu octets is made are told = absurd cc
+  reports (Ungranted reason) pdu octets is made are told = absurd cc
+
+  states : (printed : Print) (pdu : Pdu) (octets : List ℕ) → pdu_in printed ≡ Some pdu → IsMade past printed → IsFrontRead (octets_of pdu) octets →
+      AnswersState octets message_id state ⊎ ReportsState octets message_id state → StatesFate printed message_id state
+  states printed pdu octets is made are (inl answers) =
+      inl (queries printed pdu octets is made are answers.answer answers.pdu answers.message answers.state_is, answers.final)
+  states printed pdu octets is made are (inr told) = inr (inr (reports printed pdu octets is made are told).tells)
 
 -- ---- a script
 
@@ -291,6 +303,23 @@ lines_name lines inputs prints last joins node printed message_id state among te
     by_stage (Some world) so =
         of_all TellsNamed (told_by prints) (by_node node printed) (subst (AllByRecursion TellsNamed) (append-nil (told_by prints)) (so.tell [] [] tt))
         (told_by_all node printed prints among) message_id state tells
+
+-- and so it is of a receipt
+pub lines_report : (lines : List (List ℕ)) (inputs : List NodeInput) (prints : List WorldPrint) (last : Stage) →
+    Joins script_settings None lines inputs prints last → (node : ℕ) (printed : Print) (pdu : Pdu) (octets message_id : List ℕ) (state : ℕ) →
+    In (At node printed) prints → pdu_in printed ≡ Some pdu → IsFrontRead (octets_of pdu) octets → ReportsState octets message_id state →
+    PrintsReceipt printed message_id state
+lines_report lines inputs prints last joins node printed pdu octets message_id state among is are told =
+    by_stage last (first_so script_settings (λ cluster. MadeFrom) made_telling (λ cluster. made_takes) lines inputs prints last joins)
+  where
+    by_stage : (stage : Stage) → StageSo script_settings (λ cluster. MadeFrom) made_telling (λ cluster. made_takes) stage inputs prints →
+        PrintsReceipt printed message_id state
+    by_stage None so = absurd (subst (In (At node printed)) so among)
+    by_stage (Some world) so =
+        let made = so.tell so.past [] (record { inputs = []; last_is = refl; all = tt }) in
+        let all = subst (AllByRecursion (MadeAt so.past)) (append-nil (told_by prints)) made.all in
+        reports so.past so.stands.fit.clear message_id state printed pdu octets is
+        (of_all (MadeAt so.past) (told_by prints) (by_node node printed) all (told_by_all node printed prints among)) are told
 
 line_states : (script front later line message_id : List ℕ) (state : ℕ) → front ++ later ≡ text_of script → In line (lines_of front) →
     TellsFate line message_id state → IsStated script message_id state

@@ -10,7 +10,7 @@ use Rattle.mc_model.specs.synod.OneSlot.{Vote}
 use Rattle.mc_model.specs.synod.Packet.{Ask, Packet, Prepare, Promise, Propose, Refused, Slot, Tell, TopVote, Voted, slot_at}
 use Rattle.mc_model.specs.node.Actor.{Cancel, Query, Request, Submit, id_in}
 use Rattle.mc_model.specs.node.Input.{Arrival, Crash, Delivery, Grant, Input, Refusal, Response, Restart, Tick}
-use Rattle.mc_model.specs.node.FirstRule.{Close, Delete, Expire, Follow, GiveUp, Lose, Rule, Take, Try, Undeliver}
+use Rattle.mc_model.specs.node.FirstRule.{Announce, Close, Delete, Expire, Follow, GiveUp, Lose, Rule, Take, Try, Undeliver}
 use Rattle.mc_model.specs.node.Outcome.{Outcome}
 use Rattle.mc_model.specs.node.Outputs.{Reply}
 use Rattle.mc_model.specs.node.Replies.{Answer, NotMatched, NotOwner, Removed, Shown, TooLate}
@@ -25,12 +25,12 @@ use Rattle.node_model.specs.Learner.{heard, makes_known}
 use Rattle.node_model.specs.Message.{Message, Round}
 use Rattle.node_model.specs.Outputs.{Stepped, leaves}
 use Rattle.node_model.specs.Packets.{answer_told, heard_in, is_member, is_own_name, known_then, on_known, on_packet}
-use Rattle.node_model.specs.Packets.{promised_in, settled_for, settled_told, start_told, tell_held, tells_about}
+use Rattle.node_model.specs.Packets.{promised_in, settled_for, settled_told, start_known, start_told, tell_held, tells_about}
 use Rattle.node_model.specs.Packets.{vote_concerns}
 use Rattle.node_model.specs.Proposer.{Prepared, Start, is_free, is_own_ballot, runs_at, started}
 use Rattle.node_model.specs.Requests.{begun, held_at, id_of, is_cancel, settled_by, settles, ticket_of, told_by, with_held}
 use Rattle.node_model.specs.Rules.{Fitting, first_rule}
-use Rattle.node_model.specs.Starts.{delete_for, take_for}
+use Rattle.node_model.specs.Starts.{take_for}
 use Rattle.node_model.specs.Stepped.{saved_by, sender_of, stepped, stepped_down, stepped_up, stopped}
 use Rattle.node_model.specs.Ticks.{given_up, ids_of, is_late, late_reply, on_arrival, on_tick, ruled, ruled_each, ticked, waits_too}
 use Rattle.world_fates.proofs.node.Posting.{found_in}
@@ -252,8 +252,8 @@ known_so input setup k id m chain = record {
     learned : Kept
     learned = record (with_message k id (known_then m chain)) { held = settled }
 
-    same : Same learned (started setup learned id (delete_for setup learned id learned.held (Some chain))).kept
-    same = started_same setup learned id (delete_for setup learned id learned.held (Some chain))
+    same : Same learned (started setup learned id (start_known setup learned id m.known chain)).kept
+    same = started_same setup learned id (start_known setup learned id m.known chain)
 
     before : (h : Held) → In h settled → IsAmong k.held h
     before h among =
@@ -366,6 +366,7 @@ ruled_same setup k id (Some fit) =
     by_rule Expire place = record { held = refl; ticket = refl }
     by_rule Undeliver place = record { held = refl; ticket = refl }
     by_rule Try place = record { held = refl; ticket = refl }
+    by_rule Announce place = record { held = refl; ticket = refl }
 
 each_same : (setup : Setup) (up : List ℕ → Bool) (ids : List ℕ) (k : Kept) → Same k (ruled_each setup up ids k).kept
 each_same setup up [] k = record { held = refl; ticket = refl }

@@ -18,3 +18,4 @@ pub mod Written
 pub mod Cancelled
 pub mod Deleted
 pub mod Queried
+pub mod Once

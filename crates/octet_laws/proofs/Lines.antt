@@ -17,7 +17,7 @@ use Rattle.script_text.specs.Prints.{At, Refuses, StopsSettling, WorldPrint, wor
 use Rattle.octet_laws.specs.Tellings.{IsPduLine}
 use Rattle.octet_laws.proofs.Words.{IsFrontRead, Lacks, both_lack, cons_first, decimal_lacks, decoded, hex_lacks_feed, split, tests_lack}
 
-abbrev feed : List ℕ
+abbrev pub feed : List ℕ
 feed = 10 ∷ []
 
 -- ---- what is printed is one line
@@ -160,6 +160,53 @@ front_printed prints front later line is among =
     let it = front_among (lines_of front) (lines_of (front ++ later)) (lines_are_fronts front later) line among in
     let whole = line_printed prints it.whole (subst (λ (text : List ℕ). In it.whole (lines_of text)) is it.among) in
     record { print = whole.print; more = it.more; among = whole.among; written = whole.written ∙ ap (λ (l : List ℕ). l ++ feed) it.is }
+
+-- of two lines one is that of a print, and the one behind it that of a print behind that
+pub record AreFrontsOfLines (prints : List WorldPrint) (one other : List ℕ) : Type 0 where
+  pub before : List WorldPrint
+  pub first : WorldPrint
+  pub rest : List WorldPrint
+  pub prints_are : prints ≡ before ++ first ∷ rest
+  pub more : List ℕ
+  pub written : world_line first ≡ one ++ more ++ feed
+  pub second : IsFrontOfLine rest other
+
+fronts_printed : (prints : List WorldPrint) (before : List (List ℕ)) (one : List ℕ) (later : List (List ℕ)) (other : List ℕ) →
+    AreFronts (before ++ one ∷ later) (lines_of (world_text prints)) → In other later → AreFrontsOfLines prints one other
+fronts_printed [] [] one later other fronts among = absurd fronts
+fronts_printed [] (line ∷ before) one later other fronts among = absurd fronts
+fronts_printed (first ∷ prints) [] one later other fronts among =
+    let both = subst (AreFronts (one ∷ later)) (lines_then first prints) fronts in
+    let it = front_among later (lines_of (world_text prints)) both.1 other among in
+    let whole = line_printed prints it.whole it.among in
+    record {
+      before = [];
+      first = first;
+      rest = prints;
+      prints_are = refl;
+      more = both.0.0;
+      written = (has_line first).written ∙ ap (λ (l : List ℕ). l ++ feed) both.0.1;
+      second = record { print = whole.print; more = it.more; among = whole.among; written = whole.written ∙ ap (λ (l : List ℕ). l ++ feed) it.is };
+    }
+fronts_printed (first ∷ prints) (line ∷ before) one later other fronts among =
+    let both = subst (AreFronts (line ∷ (before ++ one ∷ later))) (lines_then first prints) fronts in
+    let it = fronts_printed prints before one later other both.1 among in
+    record {
+      before = first ∷ it.before;
+      first = it.first;
+      rest = it.rest;
+      prints_are = ap (λ (ps : List WorldPrint). first ∷ ps) it.prints_are;
+      more = it.more;
+      written = it.written;
+      second = it.second;
+    }
+
+pub both_printed : (prints : List WorldPrint) (front later : List ℕ) → front ++ later ≡ world_text prints → (before : List (List ℕ)) (one : List ℕ)
+    (rest : List (List ℕ)) (other : List ℕ) → lines_of front ≡ before ++ one ∷ rest → In other rest → AreFrontsOfLines prints one other
+both_printed prints front later is before one rest other lines among =
+    fronts_printed prints before one rest other
+    (subst (λ (text : List ℕ). AreFronts (before ++ one ∷ rest) (lines_of text)) is
+    (subst (λ (ls : List (List ℕ)). AreFronts ls (lines_of (front ++ later))) lines (lines_are_fronts front later))) among
 
 -- ---- a line of octets is that of a PDU
 

@@ -1,5 +1,5 @@
 -- What each print of a script is made of.
-use Rattle.std.proofs.Common.{◌≡◌, ℕ, List, [], ◌∷◌, ◌++◌, Option, Some, None, refl, sym, subst}
+use Rattle.std.proofs.Common.{◌≡◌, ℕ, ◌<◌, ◌^◌, List, [], ◌∷◌, ◌++◌, Option, Some, None, refl, sym, subst}
 use Rattle.std.specs.Fmt.{decimal}
 use Rattle.std.specs.List.{AllByRecursion}
 use Rattle.mc_model.specs.message.Submission.{Submission}
@@ -41,7 +41,7 @@ abbrev pub IsMade : List NodeInput → Print → Type 0
 IsMade past (AtOnce session pdu) = TellsNone pdu.body × IsNoDeliverSm pdu.body
 IsMade past (Late session id pdu) = IsReply pdu
 IsMade past (Delivers session pdu) = IsAttempt past pdu
-IsMade past (Reports session sequence optional report) = WasSubmitted past report.taken
+IsMade past (Reports session sequence optional report) = WasSubmitted past report.taken × (report.id < 2 ^ 64)
 IsMade past (Gone session) = Unit {0}
 IsMade past (Declined number) = Unit {0}
 IsMade past (Ungranted reason) = Unit {0}
@@ -51,7 +51,7 @@ made_later inputs past (AtOnce session pdu) made = made
 made_later inputs past (Late session id pdu) made = made
 made_later inputs past (Delivers session pdu) made =
     record { session = made.session; taken = made.taken; submitted = submitted_later inputs past made.taken made.submitted; is = made.is }
-made_later inputs past (Reports session sequence optional report) made = submitted_later inputs past report.taken made
+made_later inputs past (Reports session sequence optional report) made = (submitted_later inputs past report.taken made.0, made.1)
 made_later inputs past (Gone session) made = tt
 made_later inputs past (Declined number) made = tt
 made_later inputs past (Ungranted reason) made = tt
@@ -123,8 +123,10 @@ pub made_telling : (cluster : Cluster) → IsTelling cluster MadeFrom
 made_telling cluster = record {
   mute = λ last past node print prints mute other from. made_then last past node print prints (mute_made past print mute other) from;
   report = λ last past node receipt session sequence optional report prints may out is from.
-      made_then last past node (Reports session sequence optional report) prints
-      (reported_submitted cluster past may out.outputs out.given receipt out.among report.taken is.taken) from;
+      made_then last past node (Reports session sequence optional report) prints (
+        reported_submitted cluster past may out.outputs out.given receipt out.among report.taken is.taken,
+        subst (λ (n : ℕ). n < 2 ^ 64) (sym is.id_is) out.small,
+      ) from;
   step = λ last past next prints may from. made_next last past next prints from;
   replies = λ last past next connected prints may small from.
       made_next last past next (prints_at next.node (told connected (step_now cluster next past).outputs.replies).prints ++ prints)

@@ -10,7 +10,7 @@ use Rattle.pdu_codec.specs.Pdu.{read_pdu}
 use Rattle.script_lines.specs.Lines.{lines_of}
 use Rattle.script_text.specs.Script.{text_of}
 use Rattle.octet_laws.specs.Sessions.{CancelCame, IsCancelAnswer, IsGrantedNoMore, IsToldDeleted, QueryCame, Writes, heard_on, written_by}
-use Rattle.octet_laws.specs.Tellings.{IsPdu, TellOneFate, deliver_sm, esme_rok, query_sm_resp}
+use Rattle.octet_laws.specs.Tellings.{HaveOneReceipt, IsPdu, TellOneFate, deliver_sm, esme_rok, query_sm_resp}
 use Rattle.pdu_bodies.specs.declared.pdu.QueryAnswer.{QueryAnswer}
 
 -- The lines of the octets that a script writes, all or the first of them, tell one fate of each message.
@@ -19,6 +19,13 @@ OneFateIsWritten =
     (script written later : List ℕ)
     → written ++ later ≡ text_of script
     → TellOneFate (lines_of written)
+
+-- Of the lines that a script writes, all or the first of them, one at most is a delivery receipt of each message_id.
+abbrev pub OneReceiptIsWritten : Type 0
+OneReceiptIsWritten =
+    (script written later : List ℕ)
+    → written ++ later ≡ text_of script
+    → HaveOneReceipt (lines_of written)
 
 -- octets are what a query_sm_resp or a deliver_sm with this body is
 abbrev pub IsSpelledAs : List ℕ → ℕ → Body → Type 0

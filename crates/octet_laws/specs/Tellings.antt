@@ -93,6 +93,23 @@ pub record TellsFate (line message_id : List ℕ) (state : ℕ) : Type 0 where
   pub line_is : IsPduLine line octets
   pub tells : AnswersState octets message_id state ⊎ ReportsState octets message_id state
 
+-- The line is of octets that are a delivery receipt of the message of a message_id.
+pub record IsReceiptLine (line message_id : List ℕ) : Type 0 where
+  pub octets : List ℕ
+  pub line_is : IsPduLine line octets
+  pub state : ℕ
+  pub reports : ReportsState octets message_id state
+
+-- No line of these behind a delivery receipt is one of the same message.
+abbrev pub HaveOneReceipt : List (List ℕ) → Type 0
+HaveOneReceipt lines =
+    (before : List (List ℕ)) (one : List ℕ) (later : List (List ℕ)) (other message_id : List ℕ)
+    → lines ≡ before ++ one ∷ later
+    → In other later
+    → IsReceiptLine one message_id
+    → IsReceiptLine other message_id
+    → ⊥
+
 -- All lines of these that tell a final state of one message tell the same.
 abbrev pub TellOneFate : List (List ℕ) → Type 0
 TellOneFate lines =

@@ -6,6 +6,7 @@ ghost use Rattle.octet_laws.specs.Laws.{
   EachAnswerIsToAQuery,
   LinesWriteOn,
   OneFateIsWritten,
+  OneReceiptIsWritten,
   WhatIsReadIsSpelled,
 };
 
@@ -13,6 +14,11 @@ ghost use Rattle.octet_laws.specs.Laws.{
 /// delivery receipt (SMPP 3.4, 5.2.12 and appendix B), tell the same.
 pub fn one_fate_is_written()
     ensures { OneFateIsWritten }
+{}
+
+/// And of them one at most is a delivery receipt of each message_id.
+pub fn one_receipt_is_written()
+    ensures { OneReceiptIsWritten }
 {}
 
 /// And so do those that the codec reads: what `read_pdu` finds to be a query_sm_resp or a deliver_sm is one as the law has it.

@@ -1,5 +1,5 @@
 -- The one-node text: what a calm script prints, over a table from message id to chain.
-use Rattle.std.specs.Prelude.{ℕ, false, List, [], ◌∷◌, ◌++◌, Option, Some, None, Result, Ok, Err}
+use Rattle.std.specs.Prelude.{ℕ, Bool, false, List, [], ◌∷◌, ◌++◌, Option, Some, None, Result, Ok, Err}
 use Rattle.std.specs.Ordering.{nat_cmp}
 use Rattle.std.specs.BTreeMap.{insert_entry}
 use Rattle.mc_model.specs.message.Chain.{taken_in}
@@ -12,7 +12,7 @@ use Rattle.mc_model.specs.node.Outcome.{Outcome}
 use Rattle.mc_model.specs.node.Outputs.{Receipt, Reply}
 use Rattle.table_laws.specs.Attempts.{concluded_at, granted_at, newest_slot, receipts_on, refusal_at}
 use Rattle.table_laws.specs.Tables.{TableNode, chain_at, new_table, receipts_by, reply_to, requested}
-use Rattle.table_laws.specs.Ticks.{receipts_between, ticked}
+use Rattle.table_laws.specs.Ticks.{receipts_ticked, ticked}
 use Rattle.pdu_tables.specs.CommandCodes.{command_of}
 use Rattle.pdu_tables.specs.declared.status.Status.{Status}
 use Rattle.pdu_codec.specs.Grammar.{word_at}
@@ -157,11 +157,14 @@ came settings one number octets (Err fault) =
 
 -- ---- events
 
--- the table after a moment, what is due by it, and what goes out then
-abbrev pub ticks : OneNode → TableNode → Happened
-ticks one t =
-    with_posted (record one { node = t; due = one.due ++ receipts_between one.node.table t.table })
-    (posted_for_all t.clock (mail_of one) (accounts_up one.sessions))
+-- a tick leaves this table, and these receipts are due by it; what waits goes out
+abbrev pub ticks : OneNode → TableNode → List Receipt → Happened
+ticks one t receipts =
+    with_posted (record one { node = t; due = one.due ++ receipts }) (posted_for_all t.clock (mail_of one) (accounts_up one.sessions))
+
+-- a moment has come, at which these accounts have a session that may receive
+abbrev pub ticks_up : OneNode → ℕ → (List ℕ → Bool) → Happened
+ticks_up one moment up = ticks one (ticked one.node moment up) (receipts_ticked one.node moment up)
 
 -- what was owed is printed, and the receipts that are due go out
 abbrev pub settled : OneNode → Happened
@@ -169,7 +172,7 @@ settled one = in_front one.owed (with_posted (record one { owed = []; due = [] }
 
 unfoldable pub happens : Settings → OneNode → Event → Happened
 happens settings one (Comes number octets) = came settings one number octets (read_pdu octets)
-happens settings one (Ticks moment) = ticks one (ticked one.node moment (is_up (accounts_up one.sessions)))
+happens settings one (Ticks moment) = ticks_up one moment (is_up (accounts_up one.sessions))
 happens settings one (Grants id) = granted_unless one id (refusal_at one.node id)
 happens settings one Settles = settled one
 

@@ -9,7 +9,8 @@ use Rattle.sessions.specs.declared.pushed.Delivery.TheVariants as deliveries
 use Rattle.script_text.specs.Pushes.{knows_optional, session_at, target_in, with_push}
 use Rattle.script_text.specs.Left.{Left, followed_by, rests}
 use Rattle.script_text.specs.Prints.{Print, Reports}
-pub use Rattle.esme_service.specs.Reports.{began_at, report_if, reported_as, reported_by_fate, reported_on, reported_by, submitter_of, is_for, most_waiting, waits_for}
+pub use Rattle.esme_service.specs.Reports.{began_at, report_if, reported_as, reported_below, reported_by, reported_by_fate, reported_on}
+pub use Rattle.esme_service.specs.Reports.{is_for, most_waiting, submitter_of, waits_for}
 
 -- the sessions that are connected, and the receipts that wait, the oldest first
 pub record Mail : Type 0 where

@@ -18,3 +18,4 @@ pub mod InOrder
 pub mod Posting
 pub mod Acting
 pub mod Once
+pub mod Spending

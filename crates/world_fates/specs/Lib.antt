@@ -1,4 +1,5 @@
 pub mod Laws
+pub mod Receipts
 pub mod Deliveries
 pub mod Refusals
 pub mod Questions

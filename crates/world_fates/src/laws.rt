@@ -17,6 +17,7 @@ ghost use Rattle.world_fates.specs.Questions.{
   LaterQueriesTellTheFate,
   LaterRequestsAreOfKnownMessages,
 };
+ghost use Rattle.world_fates.specs.Receipts.{OneReceiptIsPrinted};
 ghost use Rattle.world_fates.specs.Refusals.{IdsAreNotRefusedAtOnce};
 ghost use Rattle.world_fates.specs.Requests.{
   AcceptedIdsAreNotRefusedAtOnce,
@@ -36,6 +37,11 @@ pub fn a_script_is_a_run()
 /// by a cancel_sm_resp (SMPP 3.4, 4.9.2) or by a delivery receipt (SMPP 3.4, appendix B).
 pub fn one_fate_is_printed_by_all_nodes()
     ensures { OneFateIsPrintedByAllNodes }
+{}
+
+/// And one delivery receipt at most is printed of each message_id, at whatever node and on whatever session (SMPP 3.4, 5.2.12).
+pub fn one_receipt_is_printed()
+    ensures { OneReceiptIsPrinted }
 {}
 
 /// After a print of a final state each query_sm of the message that the same node answers ESME_ROK tells it, whatever happens meanwhile.

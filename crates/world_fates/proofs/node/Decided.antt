@@ -1,5 +1,5 @@
 -- A final state that a node knew is told by each reply to a query_sm from then on, also after restarts.
-use Rattle.std.proofs.Common.{◌≡◌, ◌⊎◌, ℕ, ◌≤◌, List, length, Some, refl, sym, ◌∙◌, ap, subst, pred, inl, inr, arith}
+use Rattle.std.proofs.Common.{◌≡◌, ◌⊎◌, ℕ, ◌≤◌, List, length, Some, refl, sym, subst, pred, inl, inr, arith}
 use Rattle.mc_model.specs.message.Decree.{Decree, Final}
 use Rattle.mc_model.specs.message.Chain.{final_in}
 use Rattle.mc_model.specs.synod.Lists.{In}
