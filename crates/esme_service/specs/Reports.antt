@@ -1,8 +1,8 @@
 -- Delivery receipts: what one reports, to whom it goes, and those that wait for a session (SMPP 3.4, appendix B; the queue: own).
 use Rattle.std.specs.Prelude.{ℕ, Bool, nat_lt, List, [], ◌∷◌, ◌++◌, filter, length, reverse, slice_get, Option, Some}
 use Rattle.std.specs.Prelude.{None, option_map, if◌then◌else◌}
-use Rattle.mc_model.specs.message.Chain.{taken_in, untold}
-use Rattle.mc_model.specs.message.Decree.{Decree, Fate, Kind}
+use Rattle.mc_model.specs.message.Chain.{taken_in}
+use Rattle.mc_model.specs.message.Decree.{Decree, Fate, Kind, Told}
 use Rattle.mc_model.specs.message.Submission.{Submission}
 use Rattle.mc_model.specs.node.Outputs.{Receipt}
 use Rattle.node_model.specs.Answers.{is_asked}
@@ -31,9 +31,14 @@ abbrev pub reported_by_fate : ℕ → Option ℕ → Option Submission → List 
 reported_by_fate id began taken [] = None
 reported_by_fate id began taken (newest ∷ older) = reported_as id began taken newest.moment newest.kind
 
--- that is the newest decree but Told
+-- that stands below a Told: of a chain that ends in another decree nothing is reported
+abbrev pub reported_below : ℕ → Option ℕ → Option Submission → List Decree → Kind → Option Report
+reported_below id began taken older Told = reported_by_fate id began taken older
+reported_below id began taken older kind = None
+
 abbrev pub reported_on : ℕ → List Decree → Option Report
-reported_on id decrees = reported_by_fate id (began_at decrees) (taken_in decrees) (untold decrees)
+reported_on id [] = None
+reported_on id (newest ∷ older) = reported_below id (began_at (newest ∷ older)) (taken_in (newest ∷ older)) older newest.kind
 
 abbrev pub reported_by : Receipt → Option Report
 reported_by receipt = reported_on receipt.id receipt.chain

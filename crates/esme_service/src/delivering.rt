@@ -36,8 +36,8 @@ pub(crate) fn delivery_octets(
     }
 }
 
-/// The octets of the deliver_sm of the receipt by a chain, for the session over which it is pushed; none if the chain does not end in a
-/// fate, or if no receipt of it was asked. An `Err` is want of memory.
+/// The octets of the deliver_sm of the receipt by a chain, for the session over which it is pushed; none if the chain does not end in a Told
+/// behind a fate of which a receipt was asked. An `Err` is want of memory.
 pub(crate) fn receipt_octets(
     alloc: Global,
     pushed: PushedOn,
@@ -53,6 +53,7 @@ pub(crate) fn receipt_octets(
         Err(ReceiptFault::Memory) => Err(AllocError),
         Err(ReceiptFault::NoFate) => Ok(None),
         Err(ReceiptFault::NotAsked) => Ok(None),
+        Err(ReceiptFault::NotTold) => Ok(None),
     }
 }
 

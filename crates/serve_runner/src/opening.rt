@@ -95,7 +95,7 @@ pub(crate) fn listen_all<R: Net<Listener = TcpListener, Stream = TcpStream>>(
 ) -> Result<Vec<TcpListener>, ServeFault> {
     let mut listeners = Vec::with_capacity(alloc, nodes.len())?;
     for node in nodes {
-        match TcpListener::bind(rt, SocketAddr::V4(node.listen)) {
+        match TcpListener::bind(rt, SocketAddr::from(node.listen)) {
             Ok(listener) => listeners.push(listener)?,
             Err(_) => return Err(ServeFault::Listen(node.listen)),
         }

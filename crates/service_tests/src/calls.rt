@@ -109,7 +109,7 @@ fn delivers(rt: &impl Abort, alloc: Global, config: &Config, service: &mut Servi
 
 /// That a receipt waits, and goes out once.
 fn tells(rt: &impl Abort, alloc: Global, service: &mut Service) {
-    let waits = service.post(chain(rt, alloc, DELIVERED)).is_ok();
+    let waits = service.post(chain(rt, alloc, TOLD)).is_ok();
     let before = service.has_receipts();
     let sending = posted(rt, alloc, service);
     assert_sent(rt, alloc, sending, RECEIPT);
