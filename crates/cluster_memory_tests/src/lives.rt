@@ -83,7 +83,7 @@ fn new_life<R: Wait + Abort>(rt: &R, alloc: Global) -> Option<[u64; 5]> {
 fn a_message_is_delivered_and_its_node_starts_anew(rt: HostRuntime) {
     for _ in 0..TRIES {
         if let Some(found) = new_life(&rt, rt.alloc()) {
-            assert_same(&rt, &found, &[5, 9, 13, 2, 18]);
+            assert_same(&rt, &found, &[5, 9, 17, 2, 22]);
             return;
         }
     }

@@ -20,7 +20,7 @@ a cancel deletes its message
 submit_with_receipt => Waits 1
 back => Accepted 1 1000100001
 cancel => Waits 2
-back => Removed 2
+back => Reported 1000100001 4 946684800
 cancel => Waits 3
 back => Removed 3
 

@@ -107,11 +107,12 @@ fn lived<L: Begins, R: Wait + Abort>(
     [taken, chosen, reported, seat.slips().len() as u64]
 }
 
-/// Each round of a node alone sends a Prepare, a Promise, a Propose and a Voted, and each packet is one step.
+/// Each round of a node alone sends a Prepare, a Promise, a Propose and a Voted, and each packet is one step. The delivery takes two: of the fate, and of the Told
+/// behind it.
 #[test]
 fn a_message_is_delivered_and_its_node_starts_anew(rt: HostRuntime) {
     let alloc = rt.alloc();
     let (node, life) = opened(&rt, alloc);
     let numbers = lived::<Brand, HostRuntime>(&rt, alloc, Blank::new(PARTS), node, life);
-    assert_same(&rt, &numbers, &[5, 9, 13, 17]);
+    assert_same(&rt, &numbers, &[5, 9, 17, 21]);
 }
