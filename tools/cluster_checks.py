@@ -299,11 +299,11 @@ def crashed():
 
 def packets_of(course):
     """How many packets three nodes send in each phase. A round is a Prepare, three Promises, a Propose and three Voteds; a question is an Ask and
-    three Tells."""
-    took, asked = 8, 4
+    three Tells. Behind an end its receipt is told, by a round of its own."""
+    took, asked, told = 8, 4, 8
     if ANSWERS[course.end] is not None:
-        return [took, took, took]
-    return [took, asked + took if course.end == "DELETED" else took]
+        return [took, took, took + told]
+    return [took, asked + took + told if course.end == "DELETED" else took + told]
 
 
 def whole(name, course, steps):

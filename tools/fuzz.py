@@ -206,12 +206,18 @@ def run_script(work):
     return number, fault, sum(1 for _, heard in script.steps if heard), script.told
 
 
+def begin_worker():
+    """Leaves an interrupt to the first process, which ends this one by SIGTERM."""
+    signal.signal(signal.SIGINT, signal.SIG_IGN)
+    signal.signal(signal.SIGTERM, signal.SIG_DFL)
+
+
 def run_scripts(program, given):
     """Runs the scripts, and gives how many failed."""
     begun, done, scripts, wrong, all_told = time.monotonic(), 0, 0, 0, collections.Counter()
     last = given.first + -(-given.count // A_SCRIPT)
     works = ((program, given.seed, number, given.keep) for number in range(given.first, last))
-    with multiprocessing.Pool(given.jobs, signal.signal, (signal.SIGINT, signal.SIG_IGN)) as pool:
+    with multiprocessing.Pool(given.jobs, begin_worker) as pool:
         for number, fault, inputs, told in pool.imap_unordered(run_script, works):
             done, scripts, all_told = done + inputs, scripts + 1, all_told + told
             if fault:

@@ -8,7 +8,8 @@ A transcript is a list of pairs: `>` with a line of the script, and `<` with a l
 2. no deliver_sm of an attempt goes out after ESME_ROK to its cancel_sm;
 3. an end DELIVERED is told only after a deliver_sm of an attempt went out, and the script answered that one with ESME_ROK on its session;
 4. a query_sm that came after a statement, and is answered ESME_ROK, is told the same;
-5. a query_sm or cancel_sm that came after ESME_ROK to the submit_sm is never told that there is no such message.
+5. a query_sm or cancel_sm that came after ESME_ROK to the submit_sm is never told that there is no such message;
+6. no two delivery receipts go out.
 """
 import collections
 import re
@@ -69,7 +70,7 @@ class Judge:
     def __init__(self):
         self.submits, self.questions, self.attempts = set(), {}, {}
         self.stated, self.details, self.answers = {}, {}, {}
-        self.taken, self.delivered, self.cancelled = set(), set(), set()
+        self.taken, self.delivered, self.cancelled, self.reported = set(), set(), set(), set()
         self.granted = None
 
     def comes(self, line):
@@ -129,6 +130,9 @@ class Judge:
         if not receipt:
             raise Breach(f"a receipt with the text {text!r}")
         message, minute, state, error = (part.decode("ascii") for part in receipt.groups())
+        if message in self.reported:
+            raise Breach(f"a second receipt of {message}")
+        self.reported.add(message)
         self.states(message, WORDS[state], (minute, min(int(error), 255)))
         if 0x1E in told:
             self.states(told[0x1E].rstrip(b"\0").decode("ascii"), STATES[told[0x427][0]])

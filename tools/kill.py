@@ -14,6 +14,7 @@ What must hold, of all that clients read in all lives of a store:
     one end    whoever tells the end of a message (query_sm_resp, a cancel_sm_resp with ESME_ROK, a receipt) tells the same state, error and moment as before
     ended      a query_sm that was sent after an end was told is not answered ENROUTE, and a cancel_sm as the end wants it
     no more    no deliver_sm of a message comes after its end was told, of which DELETED by a cancel_sm is one
+    once       no two receipts of a message come
 
 It prints a line for each store, then the figures; the exit status is 1 if something did not hold, and each fault names its store and its life. Store K draws
 all its choices from the seed and K, so `--seed SEED --first K --kills 10` plays it again, as far as the threads of `serve` let it. It uses the standard
@@ -57,8 +58,8 @@ class Told:
 
     def __init__(self, where):
         self.where, self.faults, self.counts = where, [], collections.Counter()
-        # By message_id: the texts, and what was told of its end. By text: who told it.
-        self.texts, self.ends, self.over = {}, {}, {}
+        # By message_id: the texts, and what was told of its end. By text: who told it. Of which messages a receipt came.
+        self.texts, self.ends, self.over, self.receipted = {}, {}, {}, set()
         self.before_end = lambda: None
 
     def fault(self, text):
@@ -211,6 +212,9 @@ class Sender(Client):
         words = dict(word.split(":", 1) for word in text.replace("submit date", "submit").replace("done date", "done").split(" text:")[0].split(" "))
         if words["stat"] not in STATES:
             return self.told.fault(f"a receipt: {text}")
+        if words["id"] in self.told.receipted:
+            self.told.fault(f"a second receipt of {words['id']}")
+        self.told.receipted.add(words["id"])
         return self.told.end("receipt", words["id"], state=STATES[words["stat"]], error=min(int(words["err"]), MOST_ERROR), minute=words["done"])
 
 

@@ -81,6 +81,8 @@ class Stream:
 
     def begin(self):
         self.rest, self.owed, self.role, self.is_ending, self.is_lost = b"", [], None, False, False
+        # What met a request beside which another one would have done.
+        self.met = []
 
     def hear(self, octets):
         """These octets are sent on it; what comes behind a wrong length is dropped."""
@@ -104,12 +106,14 @@ class Stream:
         """Takes what it is owed for this PDU of the centre, which is no deliver_sm; ValueError if it is owed nothing like it."""
         if self.is_ending:
             raise ValueError(f"told behind its end: {title(pdu)}")
-        for place, one in enumerate(self.owed):
-            if one.is_met_by(pdu):
-                break
-        else:
+        places = [place for place, one in enumerate(self.owed) if one.is_met_by(pdu)]
+        one = None if places else self.exchanged(pdu)
+        if not places and not one:
             raise ValueError(f"told what it is not owed: {title(pdu)}, sequence_number {pdu.sequence}, owed {[title(one.pdu) for one in self.owed][:5]}")
-        del self.owed[place]
+        if places:
+            # Of requests with one sequence_number a refusal is taken to be for one that has no leave to wait.
+            one = self.owed.pop(min(places, key=lambda place: pdu.status != 0 and self.owed[place].may_wait))
+            self.met += [(one, pdu)] if len(places) > 1 else []
         name = name_of(one.pdu)
         if one.pdu.command is None or name == "unbind" and pdu.status == 0 and pdu.command != pdus.GENERIC_NACK:
             self.is_ending = True
@@ -117,6 +121,16 @@ class Stream:
             if self.role is not None:
                 raise ValueError(f"bound twice: {title(pdu)}")
             self.role = name
+
+    def exchanged(self, pdu):
+        """The request that this PDU meets, if what was taken to meet it meets another one that is owed; None if there is none."""
+        for place, (one, earlier) in enumerate(self.met):
+            others = [other for other in self.owed if other.is_met_by(earlier)]
+            if one.is_met_by(pdu) and others:
+                self.owed.remove(others[0])
+                del self.met[place]
+                return one
+        return None
 
     def late(self):
         """What should have been told by now, and was not."""

@@ -180,6 +180,20 @@ check(query_unknown => has_status($state, 0x0c), said($state));
 $state = queried($esme, 'no number');
 check(query_of_no_id => has_status($state, 0x0c), said($state));
 
+# A text of 4,096 octets as message_payload both ways, and one octet more; and a part of a concatenated text, with its user data header.
+my $long = join '', map { sprintf '%03d,', $_ % 1000 } 0 .. 1023;
+my $payload = submitted('submit_of_a_payload', $esme, %to_sme1, short_message => '', message_payload => $long);
+$found = delivery($esme, sub { $_[0]{esm_class} == 0 && ($_[0]{message_payload} // '') eq $long }, 10);
+check(delivery_of_a_payload => $found && $found->{short_message} eq '', 'no deliver_sm with a message_payload');
+$receipt = delivery($esme, is_receipt($payload, 2), 10);
+check(receipt_of_a_payload => $receipt && $receipt->{short_message} =~ / text:000,001,002,003,004,$/, $receipt ? $receipt->{short_message} : 'no receipt');
+$found = answer($esme, $esme->submit_sm(%to_sme1, short_message => '', message_payload => "$long,"));
+check(payload_of_4097_octets => has_status($found, 1), said($found));
+my $part = "\x05\x00\x03\x2a\x02\x01first of two";
+submitted('submit_of_a_part', $esme, %to_sme1, esm_class => 0x40, short_message => $part);
+$found = delivery($esme, sub { $_[0]{esm_class} == 0x40 && $_[0]{short_message} eq $part }, 10);
+check(delivery_of_a_part => $found, 'no deliver_sm');
+
 # The same message at another node, and by another account.
 if ($other_port) {
     my ($other, $other_bind) = bound($other_port);

@@ -213,6 +213,12 @@ class Plain:
         self.check("too_many_parameters", is_answer(found, 0xC0), status_of(found))
         found = self.main.answer(self.main.submit(PLAIN, b"x" * 255))
         self.check("too_long_a_text", is_answer(found, 1), status_of(found))
+        payload = bytes(range(256)) * 16
+        given = self.main.submitted(PLAIN, b"", [(pdus.MESSAGE_PAYLOAD, payload)])
+        came = self.main.wait(lambda: self.main.messages(b""), 10)
+        self.check("longest_payload", given and came and came[0]["parameters"] == {pdus.MESSAGE_PAYLOAD: payload}, (given, bool(came)))
+        found = self.main.answer(self.main.submit(PLAIN, b"", [(pdus.MESSAGE_PAYLOAD, payload + b"x")]))
+        self.check("too_long_a_payload", is_answer(found, 1), status_of(found))
 
     def older_version(self):
         """An ESME of version 3.3 gets no optional parameters; its receipts have their text."""
