@@ -2,7 +2,7 @@
 """Prints what a message costs from its submit_sm to its delivery receipt, over 1, 3, 5 and 9 nodes, with 100, 1,000 and 10,000 messages.
 
 An ESME submits ten messages at node 1, with receipts; behind their settle comes a tick, by which the attempts are agreed on; they are granted, answered
-and reported, and the receipts answered; then the next ten. So a message takes three rounds, of a Prepare, a Promise of each node, a Propose and a Voted of
+and reported, and the receipts answered; then the next ten. So a message takes four rounds, of a Prepare, a Promise of each node, a Propose and a Voted of
 each, which come to all nodes. Printed are the processor time of a message, less that of a script without messages, how many times that of a tenth of the
 messages it is, the time of each packet that comes to a node, what a settle with nothing to deliver costs at the end, and the
 peak memory of each packet that was sent, which has what the nodes keep of it. The time is the best of three runs, or that of one if it takes above
@@ -55,7 +55,7 @@ def with_a_stop(nodes, lines):
 
 def packets(nodes):
     """How many packets are sent for one message."""
-    return 3 * (2 + 2 * nodes)
+    return 4 * (2 + 2 * nodes)
 
 
 def seconds_of(program, lines):

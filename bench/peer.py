@@ -190,7 +190,7 @@ class Table:
 
 def packets_sent(row, nodes):
     """The row for each packet that is sent for a life."""
-    return row._replace(what="memory for a packet that is sent, with all that nodes keep of it", times=row.times * 3 * (2 + 2 * nodes))
+    return row._replace(what="memory for a packet that is sent, with all that nodes keep of it", times=row.times * 4 * (2 + 2 * nodes))
 
 
 def tell_all(table):

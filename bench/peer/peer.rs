@@ -42,7 +42,7 @@ const QUERY_FAILED: u32 = 0x67;
 const THROTTLED: u32 = 0x58;
 
 #[derive(Clone, Copy, PartialEq)]
-enum Kind { Taken, Attempt(u32), Failed(u16), Fate(u8, u16) }
+enum Kind { Taken, Attempt(u32), Failed(u16), Fate(u8, u16), Told }
 
 #[derive(Clone, Copy)]
 struct Decree { author: u8, moment: u32, kind: Kind }
@@ -61,7 +61,15 @@ impl Chain {
 
     fn newest(&self) -> Decree { self.decrees[self.place()] }
 
-    fn fate(&self) -> Option<u8> { if let Kind::Fate(state, _) = self.newest().kind { Some(state) } else { None } }
+    /// The newest decree but Told.
+    fn last(&self) -> Decree { if self.newest().kind == Kind::Told { self.decrees[self.place() - 1] } else { self.newest() } }
+
+    fn fate(&self) -> Option<u8> { if let Kind::Fate(state, _) = self.last().kind { Some(state) } else { None } }
+
+    /// Whether a receipt of its final state was asked for, and is not told.
+    fn is_untold(&self) -> bool {
+        matches!(self.newest().kind, Kind::Fate(..)) && match self.message.registered & 3 { 1 => true, 2 => self.newest().kind != DELIVERED, _ => false }
+    }
 
     fn is_idle(&self) -> bool { matches!(self.newest().kind, Kind::Taken | Kind::Failed(_)) }
 
@@ -151,7 +159,7 @@ impl Held {
             Request::Cancel { .. } if !self.settled => None,
             Request::Cancel { .. } if !self.matches(&chain.message) => reply(CANCEL_FAILED, None),
             Request::Cancel { .. } if chain.is_idle() => None,
-            Request::Cancel { .. } => reply(if chain.newest().kind == DELETED { OK } else { CANCEL_FAILED }, None),
+            Request::Cancel { .. } => reply(if chain.last().kind == DELETED { OK } else { CANCEL_FAILED }, None),
         }
     }
 }
@@ -340,8 +348,8 @@ impl Node {
             cancelled |= held.cancels(&chain.message);
         }
         if cancelled && chain.is_idle() { self.start(chain.then(self.number, self.clock, DELETED), out) }
-        let asked = match chain.message.registered & 3 { 1 => true, 2 => chain.newest().kind != DELIVERED, _ => false };
-        if !had_fate && asked && chain.fate().is_some() && chain.id / 1_000_000_000 == u64::from(self.number) { out.receipts.push(chain.clone()) }
+        if !had_fate && self.owes(chain) { self.start(chain.then(self.number, self.clock, Kind::Told), out) }
+        if chain.newest().kind == Kind::Told && chain.newest().author == self.number { out.receipts.push(chain.clone()) }
         self.queue.retain(|held| {
             let answer = if held.id == chain.id { held.answer(nodes, Some(chain)) } else { None };
             let waits = answer.is_none();
@@ -349,6 +357,9 @@ impl Node {
             waits
         });
     }
+
+    /// Whether this node has to tell its receipt.
+    fn owes(&self, chain: &Chain) -> bool { chain.is_untold() && chain.id / 1_000_000_000 == u64::from(self.number) }
 
     fn tick(&mut self, moment: u32, up: [bool; 2], out: &mut Out) {
         self.clock = self.clock.max(moment);
@@ -363,7 +374,7 @@ impl Node {
         self.live.retain(|id| {
             let entry = self.entries.get_mut(id).unwrap();
             entry.round = None;
-            entry.known.as_ref().is_none_or(|chain| chain.fate().is_none())
+            entry.known.as_ref().is_none_or(|chain| chain.fate().is_none() || chain.is_untold())
         });
         let mut ids: Vec<u64> = self.live.iter().copied().chain(self.queue.iter().map(|held| held.id)).collect();
         ids.sort_unstable();
@@ -393,7 +404,8 @@ impl Node {
                 if closing.is_none() { entry.closed.push((place, GIVEN_UP)) }
                 closing.unwrap_or(GIVEN_UP)
             }
-            Kind::Attempt(_) | Kind::Fate(..) => return None,
+            Kind::Fate(..) if self.owes(&chain) => Kind::Told,
+            Kind::Attempt(_) | Kind::Fate(..) | Kind::Told => return None,
             _ if self.queue.iter().any(|held| held.id == id && held.cancels(&chain.message)) => DELETED,
             _ if moment >= chain.message.expiry => EXPIRED,
             Kind::Failed(error) if made == MOST_ATTEMPTS => Kind::Fate(5, error),
@@ -582,7 +594,7 @@ fn delivery(message: &Message, knows_optional: bool) -> Vec<u8> {
 }
 
 fn receipt(chain: &Chain, knows_optional: bool) -> Vec<u8> {
-    let (message, last, state) = (&chain.message, chain.newest(), chain.fate().unwrap());
+    let (message, last, state) = (&chain.message, chain.last(), chain.fate().unwrap());
     let word = ["DELIVRD", "EXPIRED", "DELETED", "UNDELIV", "", "", "REJECTD"][usize::from(state) - 2];
     let (submitted, done) = (stamp(chain.decrees[0].moment), stamp(last.moment));
     let count = u8::from(last.kind == DELIVERED);
@@ -639,7 +651,7 @@ impl Centre {
         let mut body = Vec::new();
         if reply.status == OK && command != CANCEL_SM { write!(body, "{}\0", reply.id).unwrap() }
         if let Some(chain) = reply.shown {
-            if chain.fate().is_some() { body.extend([&stamp(chain.newest().moment)[..], b"000+"].concat()) }
+            if chain.fate().is_some() { body.extend([&stamp(chain.last().moment)[..], b"000+"].concat()) }
             body.extend_from_slice(&[0, chain.fate().unwrap_or(1), chain.error().min(255) as u8]);
         }
         put_pdu(&mut self.text, (at, number), [command | RESPONSE, reply.status, sequence], &body);
