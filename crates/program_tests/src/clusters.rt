@@ -166,13 +166,13 @@ fn each_of_nine_nodes_is_down(rt: HostRuntime) {
     }
 }
 
-/// Behind each settle, or in its place: a round takes four packets one after another, and a cancel_sm two before them.
+/// Behind each settle, or in its place: a round takes four packets one after another, a receipt one more round, and a cancel_sm two packets before it.
 #[test]
 fn packets_come_twice_and_in_reverse(rt: HostRuntime) {
     let alloc = rt.alloc();
     let behind = b"settle\nreplay 2\nsettle".as_slice();
     let in_place =
-        b"replay 1\nreplay 1\nreplay 1\nreplay 1\nreplay 1\nreplay 1\nreplay 1".as_slice();
+        b"replay 1\nreplay 1\nreplay 1\nreplay 1\nreplay 1\nreplay 1\nreplay 1\nreplay 1".as_slice();
     for come in [behind, in_place] {
         assert_filled(&rt, alloc, (DELIVERED, DELIVERED_WRITES), b"123", come);
         assert_filled(&rt, alloc, (DELETED, DELETED_WRITES), b"123", come);
