@@ -62,6 +62,11 @@ fn delivered(rt: &impl Abort, alloc: Global) -> Chain {
     extended(rt, &attempted(rt, alloc), fate)
 }
 
+/// The chain on which its receipt is written.
+fn told(rt: &impl Abort, alloc: Global) -> Chain {
+    extended(rt, &delivered(rt, alloc), Kind::Told)
+}
+
 /// The entry of a step that gave this out.
 fn entry(rt: &impl Abort, alloc: Global, step: Step, outputs: Outputs) -> Entry {
     let done = Done {
@@ -220,7 +225,7 @@ fn nothing_is_wrong_with_a_delivery(rt: HostRuntime) {
     read.grant(&rt);
     read.deliver(&rt);
     read.start_anew(&rt);
-    read.receive(&rt, delivered(&rt, rt.alloc()));
+    read.receive(&rt, told(&rt, rt.alloc()));
     read.ask(&rt, "query", None);
     read.show(&rt, delivered(&rt, rt.alloc()));
     read.found(&rt, None);
@@ -261,9 +266,20 @@ fn two_fates_are_found(rt: HostRuntime) {
     let mut read = Read::new(rt.alloc());
     read.grant(&rt);
     read.deliver(&rt);
-    read.receive(&rt, delivered(&rt, rt.alloc()));
-    read.receive(&rt, deleted(&rt, rt.alloc()));
+    read.receive(&rt, told(&rt, rt.alloc()));
+    read.remove(&rt, deleted(&rt, rt.alloc()));
     read.found(&rt, Some(Wrong::TwoFates(id(&rt))));
+}
+
+#[test]
+fn two_receipts_are_found(rt: HostRuntime) {
+    let mut read = Read::new(rt.alloc());
+    read.grant(&rt);
+    read.deliver(&rt);
+    read.receive(&rt, told(&rt, rt.alloc()));
+    read.start_anew(&rt);
+    read.receive(&rt, told(&rt, rt.alloc()));
+    read.found(&rt, Some(Wrong::TwoReceipts(id(&rt))));
 }
 
 #[test]
@@ -278,7 +294,7 @@ fn a_grant_behind_a_cancel_is_found(rt: HostRuntime) {
 fn a_delivery_without_a_grant_is_found(rt: HostRuntime) {
     let mut read = Read::new(rt.alloc());
     read.deliver(&rt);
-    read.receive(&rt, delivered(&rt, rt.alloc()));
+    read.receive(&rt, told(&rt, rt.alloc()));
     read.found(&rt, Some(Wrong::NoDelivery(id(&rt))));
 }
 
@@ -286,7 +302,7 @@ fn a_delivery_without_a_grant_is_found(rt: HostRuntime) {
 fn a_delivery_that_was_not_answered_is_found(rt: HostRuntime) {
     let mut read = Read::new(rt.alloc());
     read.grant(&rt);
-    read.receive(&rt, delivered(&rt, rt.alloc()));
+    read.receive(&rt, told(&rt, rt.alloc()));
     read.found(&rt, Some(Wrong::NoDelivery(id(&rt))));
 }
 
@@ -296,7 +312,7 @@ fn an_answer_in_another_life_is_found(rt: HostRuntime) {
     read.grant(&rt);
     read.start_anew(&rt);
     read.deliver(&rt);
-    read.receive(&rt, delivered(&rt, rt.alloc()));
+    read.receive(&rt, told(&rt, rt.alloc()));
     read.found(&rt, Some(Wrong::NoDelivery(id(&rt))));
 }
 

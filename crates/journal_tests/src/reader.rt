@@ -19,8 +19,10 @@ pub enum Wrong {
     TwoFates(MsgId),
     /// An attempt of it is granted behind a final state that was told, as by ESME_ROK to its cancel_sm.
     GrantBehindAFate(MsgId),
-    /// It is told to be DELIVERED, and its chain does not end behind an attempt that was granted, and answered ESME_ROK in the same life of its node.
+    /// It is told to be DELIVERED, and its fate does not stand behind an attempt that was granted, and answered ESME_ROK in the same life of its node.
     NoDelivery(MsgId),
+    /// A second receipt of it is given out.
+    TwoReceipts(MsgId),
     /// A query_sm that came behind a final state of it is shown another one, or none.
     OtherFate(MsgId),
     /// A request that came behind ESME_ROK to its submit_sm is answered that there is no such message.
@@ -50,6 +52,7 @@ struct Told {
     id: MsgId,
     accepted: bool,
     fate: Option<Final>,
+    has_receipt: bool,
 }
 
 /// A request that waits at a node under a ticket, and what had been told of its message when it came.
@@ -173,7 +176,23 @@ impl Reader {
                 self.looks.deliveries = self.looks.deliveries.saturating_add(1);
             }
             self.state(rt, chain);
+            self.receive(rt, chain.id());
         }
+    }
+
+    /// A receipt is given out.
+    fn receive(&mut self, rt: &impl Abort, id: MsgId) {
+        let before = self.told_of(id);
+        if before.has_receipt {
+            self.find(rt, Wrong::TwoReceipts(id));
+        }
+        self.tell(
+            rt,
+            Told {
+                has_receipt: true,
+                ..before
+            },
+        );
     }
 
     /// What a request is answered, of whose message so much had been told when it came.
@@ -227,12 +246,12 @@ impl Reader {
         );
     }
 
-    /// Whether a chain ends behind an attempt that was granted, and answered ESME_ROK.
+    /// Whether the fate of a chain stands behind an attempt that was granted, and answered ESME_ROK.
     fn is_delivered(&self, chain: &Chain) -> bool {
-        let Some(slot) = slot_before(chain) else {
+        let Some(slot) = attempt_before_fate(chain) else {
             return false;
         };
-        let author = chain.newest().author;
+        let author = chain.newest_untold().author;
         for attempted in self.attempted.as_slice() {
             if attempted.slot == slot && attempted.author == author && attempted.delivered {
                 return true;
@@ -299,6 +318,7 @@ impl Reader {
             id,
             accepted: false,
             fate: None,
+            has_receipt: false,
         }
     }
 
@@ -327,9 +347,13 @@ fn id_in(request: &Request) -> Option<MsgId> {
     }
 }
 
-/// The slot in which a chain stood before its newest decree, if an attempt was the newest one there.
-fn slot_before(chain: &Chain) -> Option<Slot> {
-    let place = chain.place().checked_sub(1)?;
+/// The slot of the attempt that is the last decree before the fate of a chain, if it is one.
+fn attempt_before_fate(chain: &Chain) -> Option<Slot> {
+    let fate = match chain.newest().kind {
+        Kind::Told => chain.place().checked_sub(1)?,
+        _ => chain.place(),
+    };
+    let place = fate.checked_sub(1)?;
     match chain.decrees().get(place as usize)?.kind {
         Kind::Attempt(_) => Some(Slot {
             id: chain.id(),
