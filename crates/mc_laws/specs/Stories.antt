@@ -90,8 +90,18 @@ delivery_acts message = Reports first_id (told_chain message) ∷ round_for (tol
 abbrev pub by_node_1 : Act → ℕ × Act
 by_node_1 act = (1, act)
 
+abbrev pub delivering_story : Submission → List (ℕ × Act)
+delivering_story message = map by_node_1 (delivering_acts message)
+
 abbrev pub delivery_story : Submission → List (ℕ × Act)
 delivery_story message = map by_node_1 (delivery_acts message)
+
+-- the fate by which it is delivered
+abbrev pub delivered_slot : Slot
+delivered_slot = slot_at first_id 2
+
+abbrev pub delivered_vote : Submission → Vote
+delivered_vote message = vote_at first_ballot (delivered_chain message)
 
 -- the deed with which it ends
 abbrev pub last_deed : Submission → Deed

@@ -59,11 +59,10 @@ ghost use Rattle.mc_laws.specs.QueryStories.{
 };
 
 /// A tick comes, and by the first rule that fits a round is started. By what the chain ends in that a node knows: for the next
-/// attempt, for EXPIRED, for UNDELIVERABLE after eight failures with the error of the last, for the outcome of an attempt, for
-/// the
+/// attempt, for EXPIRED, for UNDELIVERABLE after eight failures with the error of the last, for the outcome of an attempt, for the
 /// failure of an attempt that an older incarnation made, and for that of one which finds no session, which is given up then; and
-/// for the Told behind a fate of which a receipt is asked. Or for a
-/// submit_sm that waits, for a vote beyond what is known, and for a cancel_sm that waits.
+/// for the Told behind a fate of which a receipt is asked. Or for a submit_sm that waits, for a vote beyond what is known, and for
+/// a cancel_sm that waits.
 pub fn a_tick_starts_a_round()
     ensures attempt { (message : Submission) → MayBeTried message →
         IsStepAlone first_setup (node_of_actor (knowing 1 opening_clock (taken_chain message) [] []))

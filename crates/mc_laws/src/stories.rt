@@ -14,6 +14,9 @@ ghost use Rattle.mc_model.specs.cluster.Steps.{AreSteps, acts_in};
 ghost use Rattle.mc_model.specs.cluster.Fate.{States};
 ghost use Rattle.mc_laws.specs.Stories.{
   MayBeTried,
+  delivered_slot,
+  delivered_vote,
+  delivering_story,
   delivery_story,
   first_id,
   first_setup,
@@ -28,8 +31,12 @@ ghost use Rattle.mc_laws.specs.StopStories.{accepting_deed, restart_story, until
 ghost use Rattle.mc_laws.specs.AnswerStories.{cancel_story, query_story, removing_deed, showing_deed};
 ghost use Rattle.mc_laws.specs.ClusterStories.{lone, taking_steps};
 
-/// A cluster of one node takes a message of which a receipt is asked, attempts it, is answered, tells the receipt, and states that it is DELIVERED.
+/// A cluster of one node takes a message, attempts it, is answered, and chooses the fate DELIVERED. If a receipt is asked for, the node
+/// tells it, and its last deed states DELIVERED; else whoever asks is told so (`a_query_is_answered`).
 pub fn a_message_is_delivered()
+    ensures delivered { (message : Submission) → MayBeTried message → IsRun one_node (delivering_story message) }
+    ensures chosen { (message : Submission) → IsChosenIn (reached one_node (delivering_story message)) delivered_slot
+        (delivered_vote message) }
     ensures run { (message : Submission) → MayBeTried message → AsksReceipt Delivered message →
         IsRun one_node (delivery_story message) }
     ensures told { (message : Submission) → In (last_deed message) (reached one_node (delivery_story message)).past }

@@ -11,9 +11,9 @@ use Rattle.mc_model.specs.node.Actor.{Submit, opening_clock}
 use Rattle.mc_model.specs.node.Knowledge.{IsLearned, Knows}
 use Rattle.mc_model.specs.node.Replies.{Accepted}
 use Rattle.mc_model.specs.node.Act.{Act, Begins, Replies, Reports, Grants, Concludes}
-use Rattle.mc_model.specs.cluster.World.{World, May, reached, IsRun, after}
+use Rattle.mc_model.specs.cluster.World.{World, May, reached, IsChosenIn, IsRun, after}
 use Rattle.mc_laws.specs.Stories.{first_id, first_ballot, decreed, taken_chain, attempted_chain, delivered_chain, round_for, by_node_1}
-use Rattle.mc_laws.specs.Stories.{delivering_acts, delivery_story, one_node, told_chain, MayBeTried}
+use Rattle.mc_laws.specs.Stories.{delivering_story, delivered_slot, delivered_vote, delivery_story, one_node, told_chain, MayBeTried}
 use Rattle.mc_parts.proofs.Membership.{in_right}
 use Rattle.mc_laws.proofs.step.Behind.{run_on}
 use Rattle.mc_laws.proofs.story.Rounds.{all_of_one, one_of_one, IsReady, round_runs}
@@ -319,9 +319,6 @@ until_accepted message = (1, Replies 1 first_id Accepted) ∷ map by_node_1 (rou
 pub accepted_run : (message : Submission) → MayBeTried message → IsRun one_node (until_accepted message)
 accepted_run message tried = (may_accept message, taken_run message tried)
 
-abbrev pub delivering_story : Submission → List (ℕ × Act)
-delivering_story message = map by_node_1 (delivering_acts message)
-
 abbrev until_answered : Submission → List (ℕ × Act)
 until_answered message =
     (1, Concludes (slot_of first_id (attempted_chain message)) (Concluded Delivered 0))
@@ -335,6 +332,9 @@ answered_run message tried =
 pub delivering_run : (message : Submission) → MayBeTried message → IsRun one_node (delivering_story message)
 delivering_run message tried = run_on one_node (map by_node_1 (round_for (delivered_chain message))) (until_answered message)
     (round_runs (answered message) _ _ (ready_to_deliver message)) (answered_run message tried)
+
+pub delivered_chosen : (message : Submission) → IsChosenIn (reached one_node (delivering_story message)) delivered_slot (delivered_vote message)
+delivered_chosen message = all_of_one 1 _ refl (inl refl)
 
 pub delivery_run : (message : Submission) → MayBeTried message → AsksReceipt Delivered message → IsRun one_node (delivery_story message)
 delivery_run message tried asks = (

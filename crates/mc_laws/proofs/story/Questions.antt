@@ -15,13 +15,13 @@ use Rattle.mc_model.specs.node.Proposal.{IsMatch}
 use Rattle.mc_model.specs.node.Replies.{Shown, Removed}
 use Rattle.mc_model.specs.node.Act.{Act, Begins, Settles, Replies}
 use Rattle.mc_model.specs.cluster.World.{World, May, reached, IsRun, after}
-use Rattle.mc_laws.specs.Stories.{first_id, first_ballot, taken_chain, attempted_chain, delivered_chain, round_for}
+use Rattle.mc_laws.specs.Stories.{delivering_story, first_id, first_ballot, taken_chain, attempted_chain, delivered_chain, round_for}
 use Rattle.mc_laws.specs.Stories.{deleted_chain, decreed, by_node_1, one_node, MayBeTried}
 use Rattle.mc_laws.specs.AnswerStories.{asking, told_of, question_for, query_story, cancel_story}
 use Rattle.mc_parts.proofs.Membership.{slots_same}
 use Rattle.mc_laws.proofs.step.Behind.{run_on}
 use Rattle.mc_laws.proofs.story.Rounds.{all_of_one, IsReady, round_runs}
-use Rattle.mc_laws.proofs.story.Delivery.{apart, begun, accepted, answered, knows, until_accepted, accepted_run, delivering_run, delivering_story}
+use Rattle.mc_laws.proofs.story.Delivery.{apart, begun, accepted, answered, knows, until_accepted, accepted_run, delivering_run}
 
 -- ---- what is told by the records
 

@@ -1,7 +1,13 @@
 use Rattle.std.proofs.Common.{refl, inl}
 use Rattle.mc_laws.specs.Stories.{told_chain}
-use Rattle.mc_laws.proofs.story.Delivery.{delivery_run}
+use Rattle.mc_laws.proofs.story.Delivery.{delivered_chosen, delivering_run, delivery_run}
 use Rattle.mc_laws.proofs.stories.a_message_is_delivered.Goals as goal
+
+pub returns-clause-delivered : goal.returns-clause-delivered
+returns-clause-delivered c = delivering_run
+
+pub returns-clause-chosen : goal.returns-clause-chosen
+returns-clause-chosen c = delivered_chosen
 
 pub returns-clause-run : goal.returns-clause-run
 returns-clause-run c = delivery_run
