@@ -29,10 +29,11 @@ use Rattle.node_model.specs.Requests.{begun, held_at, id_of, settled_by, told_by
 use Rattle.node_model.specs.Rules.{Fitting, first_rule}
 use Rattle.node_model.specs.Starts.{take_for}
 use Rattle.node_model.specs.Stepped.{opened_new, restarted, stepped, stepped_down, stepped_up}
-use Rattle.node_model.specs.Ticks.{given_up, ids_of, ruled, ruled_each, ticked, waits_too, without_round}
+use Rattle.node_model.specs.Ticks.{given_up, ids_of, ruled, ruled_each, ticked, waits_too}
 use Rattle.node_model.specs.Attempts.{closed_by, concluded}
 use Rattle.node_model.proofs.Recorded.{are_recorded}
 use Rattle.node_laws.specs.Clusters.{NodeInput, kept_reached, step_at}
+use Rattle.node_laws.proofs.invariant.Ticked.{keys_unrounded}
 use Rattle.node_core.specs.Listing.{ListsRecorded}
 use Rattle.node_core.proofs.Restarts.{stop_lists}
 use Rattle.node_kept.proofs.Listing.{key_put, was_recorded}
@@ -130,10 +131,6 @@ comes setup k (Tell sender name told) lists =
 
 -- ---- a tick
 
-keys_stay : (es : List (ℕ × Message)) → keys_of (map without_round es) ≡ keys_of es
-keys_stay [] = refl
-keys_stay (e ∷ es) = ap (λ (rest : List ℕ). e.0 ∷ rest) (keys_stay es)
-
 gives_up : (rule : Rule) (k : Kept) (id place : ℕ) → ListsRecorded k → ListsRecorded (given_up rule k id place)
 gives_up GiveUp k id place lists = put k id _ lists
 gives_up Take k id place lists = lists
@@ -161,8 +158,8 @@ rules_each setup up (id ∷ others) k lists =
 ticks : (setup : Setup) (k : Kept) (clock : ℕ) (up : List ℕ → Bool) → ListsRecorded k →
     ListsRecorded (ruled_each setup up (ids_of (ticked k clock)) (ticked k clock)).kept
 ticks setup k clock up lists = rules_each setup up (ids_of (ticked k clock)) (ticked k clock) (record {
-  ascend = subst (IsStrictlySortedBy nat_cmp) (sym (keys_stay k.messages)) lists.ascend;
-  all = λ id is. subst (λ (ids : List ℕ). In id ids) (sym (keys_stay k.messages)) (lists.all id is);
+  ascend = subst (IsStrictlySortedBy nat_cmp) (sym (keys_unrounded k.messages)) lists.ascend;
+  all = λ id is. subst (λ (ids : List ℕ). In id ids) (sym (keys_unrounded k.messages)) (lists.all id is);
 })
 
 -- ---- a start anew

@@ -32,12 +32,12 @@ use Rattle.journal_parts.proofs.Unsent.{sent_count}
 
 -- ---- places
 
-place_in : {A : Type 0} (xs : List A) (x : A) → In x xs → (place : ℕ) × (slice_get xs place ≡ Some x)
+pub place_in : {A : Type 0} (xs : List A) (x : A) → In x xs → (place : ℕ) × (slice_get xs place ≡ Some x)
 place_in [] x none = absurd none
 place_in (y ∷ ys) x (inl same) = (zero, ap Some (sym same))
 place_in (y ∷ ys) x (inr later) = let (place, is) = place_in ys x later in (suc place, is)
 
-there_is : {A : Type 0} (xs : List A) (place : ℕ) → place < length xs → (x : A) × (slice_get xs place ≡ Some x)
+pub there_is : {A : Type 0} (xs : List A) (place : ℕ) → place < length xs → (x : A) × (slice_get xs place ≡ Some x)
 there_is [] place within = absurd (omega (arith, within))
 there_is (y ∷ ys) zero within = (y, refl)
 there_is (y ∷ ys) (suc place) within = there_is ys place (omega (arith, within))

@@ -1,9 +1,9 @@
 -- Each number has a slip if each mark is set.
-use Rattle.std.proofs.Common.{◌≡◌, ◌⊎◌, ℕ, zero, suc, ◌+◌, ◌≤◌, ◌<◌, Bool, true, false, List, [], ◌∷◌, length, Option, Some, None, IsTrue}
+use Rattle.std.proofs.Common.{◌≡◌, ◌⊎◌, ℕ, zero, suc, ◌+◌, ◌≤◌, ◌<◌, Bool, true, false, List, [], ◌∷◌, length, Some, IsTrue}
 use Rattle.std.proofs.Common.{refl, sym, ap, subst, ◌∙◌, inl, inr, arith, set}
 use Rattle.std.specs.Prelude.{◌&&◌, ◌↔◌, replicate, slice_get}
 use Rattle.std.specs.List.{list_all}
-use Rattle.std.proofs.lemmas.Option.{slice_get_within}
+use Rattle.std.proofs.lemmas.Bool.{and_from}
 use Rattle.mc_model.specs.synod.Lists.{In}
 use Rattle.journal_parts.specs.Marks.{EachOnce, HasSlip, mark_at, marked_by, marked_in, slips_in}
 use Rattle.journal_parts.specs.Slips.{Seated, Slipped}
@@ -168,7 +168,7 @@ pub each_once : (count : ℕ) (seats : List Seated) (many : Bool) → (IsTrue ma
     (IsTrue (many && list_all (λ mark. mark) (marked_in seats (replicate count false))) ↔ EachOnce count seats)
 each_once count seats many asked = (
   (λ both. record { many = asked.0 (first_of many _ both); each = all_set count seats (second_of many _ both) }),
-  (λ each. both_of many _ (asked.1 each.many) (set_all count seats each.each)),
+  (λ each. and_from many _ (asked.1 each.many) (set_all count seats each.each)),
 )
   where
     first_of : (a b : Bool) → (a && b) ≡ true → a ≡ true
@@ -178,7 +178,3 @@ each_once count seats many asked = (
     second_of : (a b : Bool) → (a && b) ≡ true → b ≡ true
     second_of true b both = both
     second_of false b both = absurd cc
-
-    both_of : (a b : Bool) → a ≡ true → b ≡ true → (a && b) ≡ true
-    both_of true b one other = other
-    both_of false b one other = one

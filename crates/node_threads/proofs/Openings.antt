@@ -1,12 +1,11 @@
 -- Nodes that opened over their stores, one after the other, and where their journal begins.
-use Rattle.std.proofs.Common.{◌≡◌, ℕ, zero, suc, ◌+◌, ◌-◌, ◌<◌, Bool, true, false, List, [], ◌∷◌, ◌++◌, length, Option, Some}
-use Rattle.std.proofs.Common.{refl, sym, ap, subst, ◌∙◌, inl, inr, arith, append_assoc, length-append}
+use Rattle.std.proofs.Common.{◌≡◌, ℕ, ◌+◌, ◌-◌, ◌<◌, Bool, true, false, List, [], ◌∷◌, ◌++◌, length, Option, Some}
+use Rattle.std.proofs.Common.{sym, ap, subst, ◌∙◌, inl, inr, arith, append_assoc, length-append}
 use Rattle.std.specs.Prelude.{if◌then◌else◌}
 use Rattle.std.specs.List.{slice_get}
 use Rattle.std.proofs.lemmas.Option.{slice_get_within}
 use Rattle.mc_model.specs.node.Setup.{Setup}
 use Rattle.mc_model.specs.cluster.Steps.{Cluster, setup_of}
-use Rattle.mc_model.specs.synod.Lists.{In}
 use Rattle.mc_parts.proofs.Membership.{at_place}
 use Rattle.node_model.specs.Kept.{Kept}
 use Rattle.node_model.specs.Stepped.{opened_new, restarted}
@@ -22,22 +21,11 @@ use Rattle.journal_laws.specs.OldStores.{kept_opened}
 use Rattle.journal_laws.specs.Openings.{IsAsLeft}
 use Rattle.journal_laws.proofs.Openings.{IsSettled, keeps_as_left, keeps_as_new}
 use Rattle.journal_laws.proofs.Recorded.{lists_reached}
+use Rattle.journal_parts.proofs.GoingOn.{place_in, there_is}
 use Rattle.node_threads.specs.Actions.{AllBegin}
 use Rattle.node_threads.specs.Defaults.{Defaults}
 use Rattle.node_threads.specs.Openings.{AreAsLeft, AreNew, AreOpened, AreUndoubted, IsOpened}
 use Rattle.node_threads.specs.Openings.{StandInOrder, cluster_of, kept_at, kept_or}
-
--- ---- places
-
-place_in : {A : Type 0} (xs : List A) (x : A) → In x xs → (place : ℕ) × (slice_get xs place ≡ Some x)
-place_in [] x none = absurd none
-place_in (y ∷ ys) x (inl same) = (zero, ap Some (sym same))
-place_in (y ∷ ys) x (inr later) = let (place, is) = place_in ys x later in (suc place, is)
-
-there_is : {A : Type 0} (xs : List A) (place : ℕ) → place < length xs → (x : A) × (slice_get xs place ≡ Some x)
-there_is [] place within = absurd (omega (arith, within))
-there_is (y ∷ ys) zero within = (y, refl)
-there_is (y ∷ ys) (suc place) within = there_is ys place (omega (arith, within))
 
 -- ---- one after the other
 

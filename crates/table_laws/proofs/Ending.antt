@@ -98,9 +98,6 @@ module _ (first validity : ℕ) (id : ℕ) (old : List Decree) (decree : Decree)
 
   -- one follows at once
   module _ (told : Decree) where
-    pub rests_for : IsReady (then_held []) id chain
-    rests_for = (known_rests first validity id old decree ballot k [] under taken).ready
-
     ready_for : IsReady (then_held held) id chain
     ready_for = (known_rests first validity id old decree ballot k held under taken).ready
 

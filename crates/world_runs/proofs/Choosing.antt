@@ -1,5 +1,5 @@
 -- Each final state that a world tells was chosen, by votes that were sent before.
-use Rattle.std.proofs.Common.{◌≡◌, ℕ, zero, suc, ◌+◌, List, [], ◌∷◌, ◌++◌, length, take, Ok, Err, refl, sym, ap, subst, ◌∙◌, arith, length-append}
+use Rattle.std.proofs.Common.{◌≡◌, ℕ, ◌+◌, List, [], ◌∷◌, ◌++◌, length, take, Ok, Err, refl, sym, ap, subst, ◌∙◌, arith, length-append}
 use Rattle.std.proofs.Common.{append_assoc}
 use Rattle.std.specs.Prelude.{reverse}
 use Rattle.std.proofs.lemmas.List.{length-reverse, reverse-append, take-append-le, take_all}
@@ -7,18 +7,15 @@ use Rattle.mc_model.specs.message.Decree.{Decree, Final}
 use Rattle.mc_model.specs.synod.Lists.{In}
 use Rattle.mc_model.specs.synod.OneSlot.{vote_at}
 use Rattle.mc_model.specs.synod.Packet.{Packet, slot_of}
-use Rattle.mc_model.specs.cluster.Steps.{Cluster, setup_of}
-use Rattle.mc_model.specs.node.Input.{Restart}
-use Rattle.mc_model.specs.node.Outputs.{Outputs}
-use Rattle.node_model.specs.Stepped.{restarted}
+use Rattle.mc_model.specs.cluster.Steps.{Cluster}
+use Rattle.mc_laws.proofs.invariant.Agreement.{learned_more}
 use Rattle.node_laws.specs.Chosen.{WasVotedFor}
-use Rattle.node_laws.specs.Clusters.{KeptCluster, MayHappen, NodeInput, StatesFinal, comes_to, kept_reached, outputs_at, step_at}
-use Rattle.node_laws.proofs.cluster.Chosen.{learned_more}
+use Rattle.node_laws.specs.Clusters.{MayHappen, NodeInput, StatesFinal, kept_reached, outputs_at}
 use Rattle.node_laws.proofs.invariant.Orders.{reverse_in}
 use Rattle.node_laws.proofs.cluster.Sources.{may_until}
 use Rattle.world.specs.declared.step.Step.{Step}
 use Rattle.world.specs.Runs.{begin_anew}
-use Rattle.world.proofs.Ending.{gives_nothing}
+use Rattle.world.proofs.Restarting.{same_packets}
 use Rattle.world_runs.specs.Traces.{Answer, AreChosen, Event, HaltedOver, StartedOver, Tried, answers_in, sent_by, told_in}
 use Rattle.world_runs.proofs.Events.{ReachesBy, events_cut, goes_on_by, until}
 use Rattle.world_runs.proofs.Tracing.{states_given, states_nothing}
@@ -38,20 +35,6 @@ oldest_are more fewer =
     ap (take (length fewer)) (reverse-append more fewer)
     ∙ take-append-le (length fewer) (reverse fewer) (reverse more) (omega (arith, count))
     ∙ take_all (length fewer) (reverse fewer) (omega (arith, count))
-
--- nodes that start anew send nothing
-sends_nothing : (cluster : Cluster) (w : KeptCluster) (node : ℕ) → (step_at cluster w (comes_to node (Restart 0))).outputs.packets ≡ []
-sends_nothing cluster w node =
-    ap (λ (o : Outputs). o.packets)
-    (gives_nothing (w.kept node).up (restarted (setup_of cluster node) (w.kept node) 0) (restarted (setup_of cluster node) (w.kept node) 0))
-
-same_packets : (cluster : Cluster) (inputs : List NodeInput) (count : ℕ) →
-    (kept_reached cluster (begin_anew count ++ inputs)).packets ≡ (kept_reached cluster inputs).packets
-same_packets cluster inputs zero = refl
-same_packets cluster inputs (suc count) =
-    ap (λ (ps : List Packet). reverse ps ++ (kept_reached cluster (begin_anew count ++ inputs)).packets)
-    (sends_nothing cluster (kept_reached cluster (begin_anew count ++ inputs)) (suc count))
-    ∙ same_packets cluster inputs count
 
 module _ (cluster : Cluster) where
   -- the packets that were sent by some inputs, and those before

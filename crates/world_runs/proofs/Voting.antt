@@ -1,5 +1,5 @@
 -- Each final state that a cluster of nodes by what they keep gives out was chosen, by votes that were sent before the step that gives it out.
-use Rattle.std.proofs.Common.{◌≡◌, ℕ, List, [], ◌∷◌, ◌++◌, map, refl, sym, ap, subst, ◌∙◌, inl, inr}
+use Rattle.std.proofs.Common.{◌≡◌, ℕ, List, [], ◌∷◌, ◌++◌, sym, ap, subst, ◌∙◌, inl, inr}
 use Rattle.std.proofs.lemmas.List.{map-append}
 use Rattle.mc_model.specs.message.Decree.{Decree, Final}
 use Rattle.mc_model.specs.synod.Lists.{In}
@@ -15,20 +15,17 @@ use Rattle.mc_model.specs.cluster.Fate.{TellsOf}
 use Rattle.mc_model.specs.cluster.Steps.{AreSteps, CameTo, Cluster, IsStep, Step, acts_in, by_node, setup_of}
 use Rattle.mc_model.specs.cluster.World.{IsRun, World, reached, start}
 use Rattle.mc_laws.proofs.invariant.Answers.{runs_to}
-use Rattle.mc_laws.proofs.step.Behind.{reached_on, run_on, steps_run}
+use Rattle.mc_laws.proofs.step.Behind.{steps_run}
 use Rattle.mc_laws.proofs.invariant.Fated.{tells_known}
 use Rattle.mc_laws.proofs.invariant.Growth.{changed_here, nodes_same}
 use Rattle.mc_laws.proofs.invariant.Reached.{Holds, holds}
+use Rattle.mc_laws.proofs.invariant.Agreement.{learned_more}
 use Rattle.node_laws.specs.Chosen.{WasVotedFor}
 use Rattle.node_laws.specs.Clusters.{MayHappen, NodeInput, StatesFinal, kept_reached, outputs_at, world_at}
-use Rattle.node_laws.proofs.cluster.Chosen.{learned_more}
+use Rattle.node_laws.proofs.cluster.Chosen.{none_mapped}
 use Rattle.node_laws.proofs.cluster.Clustered.{clustered, one_more}
-use Rattle.node_laws.proofs.cluster.Sources.{IsCutAt, IsStepOf, came_by, cut_at, in_older, step_of, told_by}
+use Rattle.node_laws.proofs.cluster.Sources.{IsCutAt, IsStepOf, cut_at, in_older, step_of, told_by}
 use Rattle.world_runs.proofs.Receiving.{ComesWith, exact_receives}
-
-none_mapped : (steps : List Step) → map came_by steps ≡ [] → steps ≡ []
-none_mapped [] same = refl
-none_mapped (step ∷ steps) same = absurd (cc)
 
 rest_same : (step other : Step) (steps others : List Step) → step ∷ steps ≡ other ∷ others → steps ≡ others
 rest_same step other steps others same = cc

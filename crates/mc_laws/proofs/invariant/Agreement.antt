@@ -3,8 +3,9 @@ use Rattle.std.proofs.Common.{◌≡◌, ◌⊎◌, ℕ, pred, ◌≤◌, List, 
 use Rattle.std.proofs.lemmas.Bool.{cases_lt}
 use Rattle.mc_model.specs.message.Decree.{Decree}
 use Rattle.mc_model.specs.message.Chain.{GoesOn}
+use Rattle.mc_model.specs.synod.Lists.{In}
 use Rattle.mc_model.specs.synod.OneSlot.{Vote, vote_at}
-use Rattle.mc_model.specs.synod.Packet.{Slot, slot_of, Voted}
+use Rattle.mc_model.specs.synod.Packet.{Packet, Slot, slot_of, Voted}
 use Rattle.mc_model.specs.node.Knowledge.{IsLearned, Knows}
 use Rattle.mc_model.specs.cluster.World.{World, cast, IsChosenIn}
 use Rattle.mc_model.specs.cluster.Fate.{IsToldChosen}
@@ -19,6 +20,12 @@ Chosen w id chain = IsToldChosen w id chain
 
 pub standing : (w : World) → Keeps w → Links w → (id : ℕ) (chain : List Decree) → Chosen w id chain → Standing w (slot_of id chain) chain
 standing w keeps links id chain c = chosen_standing w keeps links (slot_of id chain) (vote_at c.ballot chain) c.chosen
+
+-- what is learned from some packets is learned from more
+pub learned_more : (nodes : ℕ) (fewer more : List Packet) (slot : Slot) (vote : Vote) → ((packet : Packet) → In packet fewer → In packet more) →
+    IsLearned nodes fewer slot vote → IsLearned nodes more slot vote
+learned_more nodes fewer more slot vote still learned =
+    record { test = learned.test; most = learned.most; each = λ node least most passes. still (Voted node slot vote) (learned.each node least most passes) }
 
 -- what a node learned is chosen
 pub learned_chosen : (w : World) → Keeps w → (node : ℕ) (slot : Slot) (vote : Vote) → IsLearned w.nodes (w.actors node).received slot vote →

@@ -14,7 +14,7 @@ use Rattle.mc_model.specs.cluster.Fate.{IsToldChosen, TellsOf}
 use Rattle.mc_model.specs.cluster.World.{World, Deed, IsChosenIn, IsRun, May, after, reached, start}
 use Rattle.mc_parts.proofs.Fates.{told_ends}
 use Rattle.mc_parts.proofs.Membership.{in_right}
-use Rattle.mc_laws.proofs.invariant.Agreement.{Chosen, begins, chosen_same, extended, learned_chosen, standing}
+use Rattle.mc_laws.proofs.invariant.Agreement.{Chosen, begins, chosen_same, extended, learned_chosen, learned_more, standing}
 use Rattle.mc_laws.specs.Receipts.{EndsInItsTold}
 use Rattle.mc_laws.proofs.invariant.Growth.{actor_here, actors_after, nodes_same, remembers}
 use Rattle.mc_laws.proofs.invariant.Links.{chosen_standing}
@@ -93,14 +93,6 @@ abbrev pub AllLearned : World → Type 0
 AllLearned w =
     (deed : Deed) (id : ℕ) (chain : List Decree) → In deed w.past → deed.act ≡ Reports id chain → deed.incarnation ≡ (w.actors deed.node).incarnation →
     (ballot : ℕ) × IsLearned w.nodes (w.actors deed.node).received (slot_of id chain) (vote_at ballot chain)
-
-learned_more : (nodes : ℕ) (a b : List Packet) (slot : Slot) (vote : Vote) → ((packet : Packet) → In packet a → In packet b) → IsLearned nodes a slot vote →
-    IsLearned nodes b slot vote
-learned_more nodes a b slot vote more learned = record {
-  test = learned.test;
-  most = learned.most;
-  each = λ acceptor least most passes. more _ (learned.each acceptor least most passes);
-}
 
 module _ (w : World) (h : Holds w) (all : AllLearned w) (node : ℕ) (act : Act) (may : May w node act) where
   abbrev v : World

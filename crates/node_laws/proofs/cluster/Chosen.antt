@@ -3,8 +3,8 @@ use Rattle.std.proofs.Common.{◌≡◌, ℕ, List, [], ◌∷◌, ◌++◌, map
 use Rattle.std.proofs.lemmas.List.{map-append}
 use Rattle.mc_model.specs.message.Decree.{Decree, Final}
 use Rattle.mc_model.specs.synod.Lists.{In}
-use Rattle.mc_model.specs.synod.OneSlot.{Vote, vote_at}
-use Rattle.mc_model.specs.synod.Packet.{Packet, Slot, Voted, slot_of}
+use Rattle.mc_model.specs.synod.OneSlot.{vote_at}
+use Rattle.mc_model.specs.synod.Packet.{Packet, slot_of}
 use Rattle.mc_model.specs.node.Act.{Act}
 use Rattle.mc_model.specs.node.Knowledge.{IsLearned}
 use Rattle.mc_model.specs.node.Outputs.{Outputs}
@@ -17,16 +17,11 @@ use Rattle.mc_laws.proofs.step.Behind.{reached_on, run_on, steps_run}
 use Rattle.mc_laws.proofs.invariant.Fated.{tells_known}
 use Rattle.mc_laws.proofs.invariant.Growth.{nodes_same}
 use Rattle.mc_laws.proofs.invariant.Reached.{Holds, holds}
+use Rattle.mc_laws.proofs.invariant.Agreement.{learned_more}
 use Rattle.node_laws.specs.Chosen.{WasVotedFor}
 use Rattle.node_laws.specs.Clusters.{MayHappen, NodeInput, StatesFinal, kept_reached, outputs_at, world_at}
 use Rattle.node_laws.proofs.cluster.Clustered.{clustered}
 use Rattle.node_laws.proofs.cluster.Sources.{IsCutAt, IsStepOf, came_by, cut_at, step_of, told_by}
-
--- what is learned from some packets is learned from more
-pub learned_more : (nodes : ℕ) (fewer more : List Packet) (slot : Slot) (vote : Vote) → ((packet : Packet) → In packet fewer → In packet more) →
-    IsLearned nodes fewer slot vote → IsLearned nodes more slot vote
-learned_more nodes fewer more slot vote still learned =
-    record { test = learned.test; most = learned.most; each = λ node least most passes. still (Voted node slot vote) (learned.each node least most passes) }
 
 -- what was sent was sent
 packets_still : (first : World) (acts : List (ℕ × Act)) (packet : Packet) → In packet first.packets → In packet (reached first acts).packets
@@ -34,7 +29,7 @@ packets_still first [] packet sent = sent
 packets_still first (act ∷ acts) packet sent =
     in_right packet (sent_by (reached first acts) act.0 act.1) (reached first acts).packets (packets_still first acts packet sent)
 
-none_mapped : (steps : List Step) → map came_by steps ≡ [] → steps ≡ []
+pub none_mapped : (steps : List Step) → map came_by steps ≡ [] → steps ≡ []
 none_mapped [] same = refl
 none_mapped (step ∷ steps) same = absurd (cc)
 
