@@ -341,6 +341,17 @@ fn a_receipt_is_told_by_the_node_that_took_the_message(rt: HostRuntime) {
 }
 
 #[test]
+fn the_home_of_a_message_is_the_node_that_took_it(rt: HostRuntime) {
+    let chain = chain_of(&rt, rt.alloc(), &[]);
+    let mut attempt = decree(&rt, (1, TAKEN, Next::Attempt(1)));
+    attempt.author.node = NodeNo::of(2);
+    let chain = extended(&rt, chain, attempt);
+    let (home, newest) = (chain.home(), chain.newest().author.node);
+    drop(chain);
+    assert_same(&rt, &(home.number(), newest.number()), &(1, 2));
+}
+
+#[test]
 fn a_message_ended_with_its_fate(rt: HostRuntime) {
     let chain = chain_of(&rt, rt.alloc(), TOLD);
     let ended = chain.newest_untold().moment.seconds();
