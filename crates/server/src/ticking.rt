@@ -121,11 +121,11 @@ pub(crate) fn tick_on<S: StableStore, L: Begins, R: Wait + Eprint + Clock>(
     shift.give_back(seat);
 }
 
-/// After how many ticks a node with few message_ids left starts anew, though requests or deliveries wait there.
+/// After how many ticks a node with few message_ids left starts anew, though requests or deliveries wait there, or packets are under way.
 const PATIENCE: u32 = 30;
 
-/// Has a node start anew that has few message_ids left, once nothing waits there, or after thirty ticks. It is asked a second behind the rounds of a tick, when
-/// the attempts that these began have been made. How many ticks it has waited for that.
+/// Has a node start anew that has few message_ids left, once nothing waits there and all packets have come, so that no receipt is lost that is being told; or
+/// after thirty ticks. It is asked a second behind the rounds of a tick, when the attempts that these began have been made. How many ticks it has waited.
 fn start_anew_if_low<S: StableStore, L: Begins, R: Wait + Eprint>(
     shift: &Shift<'_, S, L, R>,
     ticks: u32,
@@ -133,8 +133,10 @@ fn start_anew_if_low<S: StableStore, L: Begins, R: Wait + Eprint>(
     if !shift.has_few_serials() {
         return 0;
     }
+    let house = &shift.shared.house;
     let is_busy = shift.station.site.lock(shift.rt).is_busy();
-    if !is_busy || ticks >= PATIENCE {
+    let is_through = house.have_come(house.newest());
+    if (!is_busy && is_through) || ticks >= PATIENCE {
         shift.station.anew.run_low();
     }
     ticks.saturating_add(1)
