@@ -7,7 +7,8 @@ Three nodes over stores in memory; a client at node 1 keeps ten submit_sm open: 
 receipt each, and once these have come, of messages that are due in a week, until the node has few message_ids left: half of its own up to 10,000 messages, and
 10,000 else. Printed are the messages, the submit_sm of the second kind that are answered in a second, the seconds from the last answer to the start, those from
 the start until the node is through with its first tick, the processor time of `serve` meanwhile, the slowest of the query_sm that the client asks all the
-while, the receipts that came before the start and those that the start sends again, and the parts of the journal that were closed, with the longest pause.
+while, the receipts that came before the start and those that came behind it, which should be none, and the parts of the journal that were closed, with the
+longest pause.
 MESSAGES are 1,000, 10,000 and 89,999 if none are named.
 """
 import pathlib
@@ -94,7 +95,7 @@ def started(esme, serving):
     return begun, time.monotonic(), processor_seconds(serving.process.pid) - used, slowest
 
 
-def sent_again(esme, before):
+def behind_the_start(esme, before):
     """The receipts that came behind so many, once none has come for a while."""
     count = -1
     while count != len(esme.delivered):
@@ -122,7 +123,7 @@ def run(program, messages):
         if begun is None:
             sys.exit(f"{messages} messages: the node did not start anew; {serving.said()}")
         cells = [f"{messages:,}", f"{left / seconds:,.0f}", f"{begun - last:.1f} s", f"{through - begun:.1f} s", f"{used:.2f} s", f"{slowest:.2f} s"]
-        told = f"{before:,}, then {sent_again(esme, before):,} again"
+        told = f"{before:,}, then {behind_the_start(esme, before):,}"
         print("| " + " | ".join([*cells, told, parts_of(serving)]) + " |", flush=True)
     finally:
         serving.kill()
