@@ -1,5 +1,5 @@
 -- The sessions by their numbers, from one number on.
-use Rattle.std.proofs.Common.{◌≡◌, ℕ, suc, ◌+◌, ◌-◌, ◌<◌, ◌≤◌, Bool, true, not, ◌&&◌, ◌||◌, List, [], ◌∷◌, ◌++◌, length, length-append, find, Option, Some, None, Result, Ok}
+use Rattle.std.proofs.Common.{◌≡◌, ℕ, zero, suc, ◌+◌, ◌-◌, ◌<◌, ◌≤◌, Bool, true, not, ◌&&◌, ◌||◌, List, [], ◌∷◌, ◌++◌, length, length-append, find, Option, Some, None, Result, Ok}
 use Rattle.std.proofs.Common.{if◌then◌else◌, ap, sym, ◌∙◌, arith, refl, append_assoc}
 use Rattle.std.proofs.lemmas.Bool.{and_parts, false≢true}
 use Rattle.std.specs.List.{cons_option, filter_map, range_with_len}
@@ -31,10 +31,9 @@ from_the_next number end below =
     let more : end - number ≡ suc (end - (number + 1)) = omega arith in
     ap (range_with_len number) more
 
-from_the_end : (number end : ℕ) → end ≤ number → range_with_len number (end - number) ≡ []
-from_the_end number end over =
-    let none : end - number ≡ 0 = omega arith in
-    ap (range_with_len number) none
+-- no session has a number from one on
+abbrev pub AreGoneFrom : List (ℕ × Session) → ℕ → Type 0
+AreGoneFrom connected number = (other : ℕ) → number ≤ other → other ≤ 99 → session_at connected other ≡ None
 
 -- ---- the accounts that have one that may receive
 
@@ -45,9 +44,17 @@ pub all_accounts : (connected : List (ℕ × Session)) → accounts_from connect
 unfolding accounts_from accounts_up session_numbers
 all_accounts connected = refl
 
-pub no_account : (connected : List (ℕ × Session)) (number : ℕ) → 99 < number → accounts_from connected number ≡ []
+pub no_account : (connected : List (ℕ × Session)) (number : ℕ) → AreGoneFrom connected number → accounts_from connected number ≡ []
 unfolding accounts_from
-no_account connected number over = ap (filter_map (λ one. receiver_of (session_at connected one))) (from_the_end number 100 (omega arith))
+no_account connected number gone = of_each number (100 - number) (λ other from below. gone other from (omega (arith, from, below)))
+  where
+    of_each : (first count : ℕ) → ((other : ℕ) → first ≤ other → other < first + count → session_at connected other ≡ None)
+        → filter_map (λ one. receiver_of (session_at connected one)) (range_with_len first count) ≡ []
+    of_each first zero none = refl
+    of_each first (suc count) none =
+        ap (λ (found : Option Session). cons_option (receiver_of found) (filter_map (λ one. receiver_of (session_at connected one))
+        (range_with_len (first + 1) count))) (none first (omega arith) (omega arith))
+        ∙ of_each (first + 1) count (λ other from below. none other (omega (arith, from)) (omega (arith, below)))
 
 -- what was found so far, and what is found from a number on, is all; the next session is looked at
 pub one_looked_at : (connected : List (ℕ × Session)) (number : ℕ) (account : Option (List ℕ)) (found more all : List (List ℕ)) → number ≤ 99
@@ -83,9 +90,18 @@ pub first_target : (connected : List (ℕ × Session)) (long : Bool) (target : L
 unfolding target_from target_in session_numbers
 first_target connected long target = refl
 
-pub no_target : (connected : List (ℕ × Session)) (long : Bool) (target : List ℕ) (number : ℕ) → 99 < number → target_from connected long target number ≡ None
+pub no_target : (connected : List (ℕ × Session)) (long : Bool) (target : List ℕ) (number : ℕ) → AreGoneFrom connected number
+    → target_from connected long target number ≡ None
 unfolding target_from
-no_target connected long target number over = ap (find (λ one. takes_for long target (session_at connected one))) (from_the_end number 100 (omega arith))
+no_target connected long target number gone = of_each number (100 - number) (λ other from below. gone other from (omega (arith, from, below)))
+  where
+    of_each : (first count : ℕ) → ((other : ℕ) → first ≤ other → other < first + count → session_at connected other ≡ None)
+        → find (λ one. takes_for long target (session_at connected one)) (range_with_len first count) ≡ None
+    of_each first zero none = refl
+    of_each first (suc count) none =
+        ap (λ (found : Option Session). if takes_for long target found then Some first else find (λ one. takes_for long target (session_at connected one))
+        (range_with_len (first + 1) count)) (none first (omega arith) (omega arith))
+        ∙ of_each (first + 1) count (λ other from below. none other (omega (arith, from)) (omega (arith, below)))
 
 pub next_target : (connected : List (ℕ × Session)) (long : Bool) (target : List ℕ) (number : ℕ) (takes : Bool) → number ≤ 99
     → takes ≡ takes_for long target (session_at connected number)

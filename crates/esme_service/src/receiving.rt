@@ -1,8 +1,8 @@
 //! Over which session a deliver_sm goes.
 
-ghost use Rattle.std.specs.Prelude.{[], ◌≡◌, IfOk, IsOk};
+ghost use Rattle.std.specs.Prelude.{[], ◌≡◌, ◌≤◌, ℕ, IfOk, IsOk, None};
 ghost use Rattle.std.specs.Option.{option_copied};
-ghost use Rattle.esme_service.specs.Pushes.{accounts_up, is_of, receiver_of, takes_for, target_in};
+ghost use Rattle.esme_service.specs.Pushes.{accounts_up, is_of, receiver_of, session_at, takes_for, target_in};
 ghost use Rattle.esme_service.specs.Pushing.{IsPushed};
 
 use crate::pushed_on::PushedOn;
@@ -12,7 +12,7 @@ use sessions::{Delivery, Session};
 use std::alloc::{AllocError, Global};
 use std::collections::BTreeMap;
 
-/// The lowest number of a session, and the highest.
+/// The lowest number that a session may have, and the highest.
 const FIRST_SESSION: u8 = 1;
 
 const LAST_SESSION: u8 = 99;
@@ -26,12 +26,24 @@ pub(crate) fn accounts_up(
     ensures none { accounts_up sessions.now.entries ≡ [] → IsOk result }
 {
     let mut accounts = Vec::new(alloc);
-    for number in FIRST_SESSION..=LAST_SESSION {
+    let end = behind_last(sessions);
+    for number in FIRST_SESSION..end {
         if let Some(account) = receiver_of(sessions.get(&number)) {
             accounts.push(account.copy()?)?;
         }
     }
     Ok(accounts)
+}
+
+/// The number behind the highest of a session, 100 at most; 1 if there is none.
+fn behind_last(sessions: &BTreeMap<u8, Session>) -> u8
+    ensures most { result ≤ 100 }
+    ensures gone { (number : ℕ) → result ≤ number → number ≤ 99 → session_at sessions.now.entries number ≡ None }
+{
+    match sessions.last_key_value() {
+        Some((number, _)) => (*number).min(LAST_SESSION) + 1,
+        None => FIRST_SESSION,
+    }
 }
 
 /// The account of a session, if it may receive.
@@ -74,7 +86,8 @@ pub(crate) fn push(
 fn target_in(sessions: &BTreeMap<u8, Session>, long: bool, target: &SystemId) -> Option<u8>
     ensures { result ≡ target_in sessions.now.entries long target.now }
 {
-    for number in FIRST_SESSION..=LAST_SESSION {
+    let end = behind_last(sessions);
+    for number in FIRST_SESSION..end {
         if takes_for(long, target, sessions.get(&number)) {
             return Some(number);
         }
