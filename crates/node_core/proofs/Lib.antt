@@ -6,4 +6,3 @@ pub mod Committing
 pub mod Storing
 pub mod Restarts
 pub mod Lists
-pub mod Quiet

@@ -3,12 +3,15 @@ use Rattle.std.specs.Prelude.{◌≡◌, ◌≢◌, ◌⊎◌, ℕ, ◌+◌, ◌
 use Rattle.mc_model.specs.synod.Lists.{In}
 use Rattle.mc_model.specs.synod.Packet.{Slot}
 use Rattle.mc_model.specs.synod.Acceptor.{Records, blank}
+use Rattle.mc_model.specs.node.Input.{Delivery}
 use Rattle.mc_model.specs.node.Setup.{Setup}
+use Rattle.node_model.specs.Outputs.{nothing}
 use Rattle.node_model.specs.Recorded.{AreRecorded}
 use Rattle.node_model.specs.Stepped.{opened_over, stepped}
 use Rattle.stable_store.specs.Stored.{AreSame, GoesOn, HasFailed, KeepsRecords, LeavesNext, LeavesStarted, Stays, Stored}
 use Rattle.stable_store.specs.declared.fault.StoreFault.{StoreFault}
 use Rattle.stable_store.specs.declared.fault.StoreFault.TheVariants as faults
+use Rattle.synod_acceptor.specs.Packets.{packet_of}
 use Rattle.synod_acceptor.specs.declared.packet.Packet.{Packet}
 use Rattle.synod_acceptor.specs.declared.record.Change.{Change}
 use Rattle.node_parts.specs.declared.fault.StepFault.{StepFault}
@@ -115,6 +118,16 @@ pub record HasTaken {S : Type 0} (old : Standing S) (input : Input) (new : Stand
   pub given : outputs_of outputs ≡ (stepped old.kept.setup (kept_of old.kept) (input_of old.kept.setup (kept_of old.kept) input)).outputs
   pub allowed : refused_by old.kept.setup (kept_of old.kept) input ≡ None
   pub granted : GrantsKnown (kept_of old.kept) input outputs.granted
+  pub setup : new.kept.setup ≡ old.kept.setup
+  pub incarnation : new.kept.incarnation ≡ old.kept.incarnation
+  pub works : new.broken ≡ false
+  pub unfinished : new.unfinished ≡ old.unfinished
+  pub stopped : new.stopped ≡ old.stopped
+
+-- The node took the step of a packet, which gives nothing out, and keeps what it leaves. It is the same node in the same incarnation.
+pub record HasTakenQuietly {S : Type 0} (old : Standing S) (packet : Packet) (new : Standing S) : Type 0 where
+  pub kept : kept_of new.kept ≡ (stepped old.kept.setup (kept_of old.kept) (Delivery (packet_of packet))).kept
+  pub gives : (stepped old.kept.setup (kept_of old.kept) (Delivery (packet_of packet))).outputs ≡ nothing
   pub setup : new.kept.setup ≡ old.kept.setup
   pub incarnation : new.kept.incarnation ≡ old.kept.incarnation
   pub works : new.broken ≡ false

@@ -13,12 +13,11 @@ ghost use Rattle.node_kept.specs.Keeping.{kept_of};
 ghost use Rattle.node_model.specs.Kept.{message_at};
 ghost use Rattle.node_kept.specs.Listing.{ListsRecorded};
 ghost use Rattle.node_kept.specs.Setups.{IsSetup};
-ghost use Rattle.node_kept.specs.Steps.{IsFault, IsStepFor, outputs_of};
-ghost use Rattle.node_model.specs.Outputs.{nothing};
+ghost use Rattle.node_kept.specs.Steps.{IsFault};
 ghost use Rattle.node_kept.specs.Preparing.{packet_in};
 ghost use Rattle.node_core.specs.Stops.{IsTold, IsUnfinished};
 ghost use Rattle.node_core.specs.Permits.{is_life_of};
-ghost use Rattle.node_core.specs.Nodes.{HasStopped, HasTaken, IsAwaited, IsLeft, IsLifeOf, IsStored, IsUnmoved, LeavesAny, OpensOver, SavesAny, breaks, fault_in, records_in, seen};
+ghost use Rattle.node_core.specs.Nodes.{HasStopped, HasTaken, HasTakenQuietly, IsAwaited, IsLeft, IsLifeOf, IsStored, IsUnmoved, LeavesAny, OpensOver, SavesAny, breaks, fault_in, records_in, seen};
 
 use crate::life::Life;
 use crate::open::begin;
@@ -143,37 +142,18 @@ impl<S: StableStore> Node<S> {
     }
 
     /// Takes the step of a packet, if it is one that gives nothing out, saves nothing and copies nothing, and the node is not Broken: a promise for which no
-    /// round of it runs, a vote that does not concern it or is counted where it stands, and what is told to a question that is not its own. None leaves the
+    /// round of it runs, a vote that does not concern it or is counted where it stands, and what is told to a question that is not its own. False leaves the
     /// node as it was, and says nothing of the packet: `prepare_step` takes any. It takes no memory.
     #[inline(always)]
-    pub fn take_quietly(&mut self, packet: &Packet) -> Option<Outputs>
-        ensures taken { IfSome result (HasTaken self.old (inputs.Packet packet.now) self.new) }
-        ensures nothing { IfSome result (λ outputs. outputs_of outputs ≡ nothing) }
+    pub fn take_quietly(&mut self, packet: &Packet) -> bool
+        ensures taken { result ≡ true → HasTakenQuietly self.old packet.now self.new }
         ensures store { self.new.store ≡ self.old.store }
-        ensures stays { result ≡ None → self.new ≡ self.old }
+        ensures stays { result ≡ false → self.new ≡ self.old }
     {
         if self.broken {
-            return None;
+            return false;
         }
-        match self.kept.quiet_step(packet) {
-            Some(step) => Some(self.keep(packet, step)),
-            None => None,
-        }
-    }
-
-    /// Keeps what the step of a packet leaves that saves nothing, and gives what it gives out; the node is not Broken. It takes no memory.
-    #[inline(always)]
-    fn keep(&mut self, packet: &Packet, step: Step) -> Outputs
-        requires works { self.old.broken ≡ false }
-        requires step { IsStepFor self.old.kept (inputs.Packet packet.now) step }
-        requires unsaved { step.change ≡ None }
-        ensures taken { HasTaken self.old (inputs.Packet packet.now) self.new result }
-        ensures outputs { result ≡ step.outputs }
-        ensures store { self.new.store ≡ self.old.store }
-    {
-        let Step { outputs, next, .. } = step;
-        self.kept.install(next);
-        outputs
+        self.kept.take_quietly(packet)
     }
 
     /// Does what was prepared, if the node is as it was then, it is not Broken, and no packet came. So it saves nothing. It takes no memory.

@@ -170,8 +170,8 @@ module _ (k : Holding) (message new : Filed) (chain : Chain) (m : Message) (next
       IsStep k (on_known k.setup (kept_of k) id m decrees)
       (record { outputs = outputs; change = step0.change; next = record step0.next { queue = changes.Settle copy } })
   learned_so taken cancelled had receipt outputs step0 copy is_taken asked starts fate anew due is_left same gives =
-      let base = left_as k id new left (giving (listed (option_map packet_of packet)) (listed (option_map receipt_of receipt))) step0
-      (as_changed k id message new to left is is_started.same message_is) is_left in
+      let base = left_as k id new left (as_changed k id message new to left is is_started.same message_is)
+      (giving (listed (option_map packet_of packet)) (listed (option_map receipt_of receipt))) step0 is_left in
       let requeues : requeued k.setup.nodes (held_in k.queue) (changes.Settle copy) ≡ filter (still_waits k.setup.nodes (Some decrees) id) settled =
       ap (λ (c : Chain). requeued k.setup.nodes (held_in k.queue) (changes.Settle c)) same in
       let receipts : listed (option_map receipt_of receipt) ≡ receipts_of k.setup.node k.incarnation id m.known decrees =

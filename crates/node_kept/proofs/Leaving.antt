@@ -25,9 +25,10 @@ use Rattle.node_parts.specs.declared.message.Message.{Message as Filed}
 use Rattle.node_parts.specs.Messages.{IsOfSame, IsPromised, IsRefused, changed_by, message_of}
 use Rattle.node_parts.specs.Lists.{listed}
 use Rattle.node_kept.specs.declared.kept.Kept.{Kept as Holding}
+use Rattle.node_kept.specs.declared.step.Counted.{Counted}
 use Rattle.node_kept.specs.declared.step.Step.{Step}
 use Rattle.node_kept.specs.Keeping.{AreOf, AreOwn, IsAs, IsTaken, filed_as, kept_of, records_of}
-use Rattle.node_kept.specs.Steps.{Alters, IsLeft, IsStep, giving}
+use Rattle.node_kept.specs.Steps.{Alters, IsLeft, IsQuietStep, IsStep, MayCount, counted_if, giving}
 use Rattle.node_kept.proofs.Answering.{holding, next_entries, nexts}
 use Rattle.node_kept.proofs.Queueing.{asked_same, place_same}
 use Rattle.node_kept.proofs.Entries.{message_put, own_put, records_kept}
@@ -42,8 +43,7 @@ as_changed k id old new was to is same message = record {
   records = λ place. ap (λ a. record_at a (slot_at id place)) same.acceptor ∙ is.records place;
 }
 
-module _ (k : Holding) (id : ℕ) (new : Filed) (to : Message) (outputs : Outputs) (step : Step)
-    (is : IsAs k id new to) (is_left : IsLeft k id new outputs step) where
+module _ (k : Holding) (id : ℕ) (new : Filed) (to : Message) (is : IsAs k id new to) where
   abbrev Entries : List (ℕ × Filed)
   Entries = k.messages.entries
 
@@ -56,8 +56,25 @@ module _ (k : Holding) (id : ℕ) (new : Filed) (to : Message) (outputs : Output
     messages = (message_put Entries id new ∙ ap (λ (m : Message). insert_entry nat_cmp (map filed_as Entries) id m) is.message) i;
   }
 
-  pub left_as : IsStep k (record { kept = with_message (kept_of k) id to; outputs = outputs }) step
-  left_as = record {
+  -- it is kept by a vote that is counted anew
+  pub put_quietly : (counted : Option Counted) → counted_if counted Entries ≡ with_value Entries id new → MayCount Entries counted →
+      IsQuietStep k (leaves (with_message (kept_of k) id to)) (record { counted = counted })
+  put_quietly counted entries may = record {
+    kept = (λ i. record (kept_of k) { records = records_of (entries i); messages = map filed_as (entries i) }) ∙ kept_new;
+    gives = refl;
+    records = ap records_of entries ∙ fun_ext records_then;
+    own = λ own. record {
+      each = subst (λ (es : List (ℕ × Filed)). AreOf k.setup k.incarnation es) (sym entries)
+          (own_put k.setup k.incarnation Entries id new (is.own own) own.each);
+      asked = own.asked;
+      serial = own.serial;
+    };
+    count = may;
+  }
+
+  pub left_as : (outputs : Outputs) (step : Step) → IsLeft k id new outputs step →
+      IsStep k (record { kept = with_message (kept_of k) id to; outputs = outputs }) step
+  left_as outputs step is_left = record {
     kept = nexts k id new step.next is_left.next ∙ kept_new;
     outputs = is_left.gives;
     saves = λ other.
@@ -79,7 +96,7 @@ module _ (k : Holding) (id : ℕ) (new : Filed) (to : Message) (outputs : Output
 pub left : (k : Holding) (id : ℕ) (taken new : Filed) (to : Message) (outputs : Outputs) (step : Step) → IsTaken k id taken → IsOfSame id taken new →
     message_of id new ≡ to → IsLeft k id new outputs step → IsStep k (record { kept = with_message (kept_of k) id to; outputs = outputs }) step
 left k id taken new to outputs step is_taken same is is_left =
-    left_as k id new to outputs step (as_changed k id taken new (message_at (kept_of k) id) to is_taken same is) is_left
+    left_as k id new to (as_changed k id taken new (message_at (kept_of k) id) to is_taken same is) outputs step is_left
 
 -- ---- a refusal
 

@@ -11,6 +11,7 @@ pub mod Arrivals
 pub mod Listing
 pub mod Opening
 pub mod Voting
+pub mod Quiet
 pub mod Beginning
 pub mod TickTurns
 pub mod Walking

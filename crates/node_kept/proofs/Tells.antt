@@ -187,8 +187,9 @@ module _ (k : Holding) (id : ℕ) (chain : Chain) (at : chain.id ≡ id) (taken 
       let sent : Some (packet_of one) ≡ sent_if (may_start (kept_of k).records to slot) = ap (λ (p : Option Cast). option_map packet_of p)
       (sym some) ∙ packet_is in
       subst (λ (s : Stepped). IsStep k s step) (by_test (may_start (kept_of k).records to slot) sent ∙ for_next next is)
-      (left_as k id new (kept_if (may_start (kept_of k).records to slot)) (giving (listed (Some (packet_of one))) []) step
-      (as_changed k id taken new to (kept_if (may_start (kept_of k).records to slot)) is_taken so_started.same message_is) is_left)
+      (left_as k id new (kept_if (may_start (kept_of k).records to slot))
+      (as_changed k id taken new to (kept_if (may_start (kept_of k).records to slot)) is_taken so_started.same message_is)
+      (giving (listed (Some (packet_of one))) []) step is_left)
     where
       by_test : (test : Bool) → Some (packet_of one) ≡ sent_if test →
           record { kept = with_message (kept_of k) id (kept_if test); outputs = giving (listed (Some (packet_of one))) [] } ≡ made_if test

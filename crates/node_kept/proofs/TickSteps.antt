@@ -5,22 +5,21 @@ use Rattle.std.specs.Prelude.{◌++◌, filter, option_map}
 use Rattle.mc_model.specs.synod.Packet.{Packet, Slot}
 use Rattle.mc_model.specs.node.Outputs.{Outputs}
 use Rattle.node_model.specs.Kept.{Held}
-use Rattle.node_model.specs.Outputs.{leaves, nothing}
+use Rattle.node_model.specs.Outputs.{nothing}
 use Rattle.node_model.specs.Proposer.{Prepared}
-use Rattle.node_model.specs.Ticks.{asked_again, ids_of, is_late, late_reply, on_tick, rules_then, ticked}
+use Rattle.node_model.specs.Ticks.{asked_again, ids_of, is_late, late_reply, on_tick, ticked}
 use Rattle.waiting_requests.specs.Queues.{timely}
 use Rattle.pdu_tables.specs.StatusCodes.{status_code}
 use Rattle.waiting_requests.specs.Replying.{reply_given}
 use Rattle.waiting_requests.specs.Waiting.{held_in}
 use Rattle.synod_acceptor.specs.declared.record.Change.{Change}
 use Rattle.node_parts.specs.declared.message.Message.{Message as Filed}
-use Rattle.node_parts.specs.Messages.{changed_by, rested_entry}
+use Rattle.node_parts.specs.Messages.{changed_by}
 use Rattle.node_kept.specs.declared.kept.Kept.{Kept as Holding}
 use Rattle.node_kept.specs.declared.queue_change.QueueChange.{QueueChange}
 use Rattle.node_kept.specs.declared.queue_change.QueueChange.TheVariants as changes
 use Rattle.node_kept.specs.Queueing.{AreAsked, HasPlace, requeued}
-use Rattle.node_kept.proofs.TickTurns.{asked_timely, rested_filed}
-use Rattle.node_kept.specs.declared.step.Put.{Put}
+use Rattle.node_kept.proofs.TickTurns.{asked_timely}
 use Rattle.node_kept.specs.declared.step.Step.{Step}
 use Rattle.synod_acceptor.specs.Packets.{packet_of}
 use Rattle.node_kept.specs.declared.turn_list.TurnList.{TurnList}

@@ -24,10 +24,10 @@ use Rattle.node_kept.specs.declared.kept.Kept.{Kept as Holding}
 use Rattle.node_kept.specs.declared.step.Counted.{Counted}
 use Rattle.node_kept.specs.declared.step.Step.{Step}
 use Rattle.node_kept.specs.Keeping.{AreOwn, IsAs, IsTaken, kept_of}
-use Rattle.node_kept.specs.Steps.{IsCounting, IsLeft, IsStep, MayCount, counted_if, entries_after}
+use Rattle.node_kept.specs.Steps.{IsLeft, IsQuietStep, IsStep, MayCount, counted_if}
 use Rattle.node_kept.specs.Voting.{IsCountedSo, id_concerns, voted_in}
 use Rattle.node_kept.proofs.Answering.{taken_there}
-use Rattle.node_kept.proofs.Leaving.{as_changed, left}
+use Rattle.node_kept.proofs.Leaving.{as_changed, left_as, put_quietly}
 
 -- ---- whether it concerns the node
 
@@ -35,7 +35,7 @@ concerns : (k : Holding) (vote : Cast) (test : Bool) → id_concerns k.setup (ke
     vote_concerns k.setup (kept_of k) (slot_in vote) (vote_of vote) ≡ test
 concerns k vote test is = ap (λ (b : Bool). b && id_concerns k.setup (kept_of k) vote.chain.id) (is_same (slot_in vote) (slot_in vote) refl) ∙ is
 
-module _ (k : Holding) (sender : ℕ) (vote : Cast) (taken new : Filed) (grows : Bool) (step : Step) (own : AreOwn k)
+module _ (k : Holding) (sender : ℕ) (vote : Cast) (taken new : Filed) (grows : Bool) (own : AreOwn k)
     (test : id_concerns k.setup (kept_of k) vote.chain.id ≡ true) (is_taken : IsTaken k vote.chain.id taken)
     (is_heard : IsHeard taken sender vote new grows) where
   abbrev id : ℕ
@@ -58,10 +58,23 @@ module _ (k : Holding) (sender : ℕ) (vote : Cast) (taken new : Filed) (grows :
       ap heard_if decides
       ∙ sym (ap (λ (b : Bool). if b then on_voted k.setup (kept_of k) sender (slot_in vote) (vote_of vote) else leaves (kept_of k)) (concerns k vote true test))
 
-  pub voted_only : grows ≡ false → IsLeft k id new nothing step → IsStep k (voted_in k.setup (kept_of k) sender (slot_in vote) (vote_of vote)) step
-  voted_only not_known is_left =
+  -- it is heard, and nothing becomes known
+  heard_only : grows ≡ false → IsAs k id new m
+  heard_only not_known =
+      as_changed k id taken new (message_at (kept_of k) id) m is_taken is_heard.same (message_is ∙ ap (λ (b : Bool). known_if b m vote.chain.decrees) not_known)
+
+  pub voted_only : (step : Step) → grows ≡ false → IsLeft k id new nothing step →
+      IsStep k (voted_in k.setup (kept_of k) sender (slot_in vote) (vote_of vote)) step
+  voted_only step not_known is_left =
       subst (λ (s : Stepped). IsStep k s step) (ap heard_if (sym not_known) ∙ voted_is)
-      (left k id taken new m nothing step is_taken is_heard.same (message_is ∙ ap (λ (b : Bool). known_if b m vote.chain.decrees) not_known) is_left)
+      (left_as k id new m (heard_only not_known) nothing step is_left)
+
+  pub voted_quietly : (counted : Option Counted) → grows ≡ false → counted_if counted k.messages.entries ≡ with_value k.messages.entries id new →
+      MayCount k.messages.entries counted →
+      IsQuietStep k (voted_in k.setup (kept_of k) sender (slot_in vote) (vote_of vote)) (record { counted = counted })
+  voted_quietly counted not_known entries may =
+      subst (λ (s : Stepped). IsQuietStep k s (record { counted = counted })) (ap heard_if (sym not_known) ∙ voted_is)
+      (put_quietly k id new m (heard_only not_known) counted entries may)
 
   pub known_as : grows ≡ true → IsAs k id new (known_then m vote.chain.decrees)
   known_as is_known =
@@ -77,33 +90,20 @@ module _ (k : Holding) (sender : ℕ) (vote : Cast) (taken new : Filed) (grows :
       by_known None shorter = refl
       by_known (Some old) shorter = grind (arith, nat_tests)
 
-  pub voted_known : grows ≡ true → IsStep k (on_known k.setup (kept_of k) id m vote.chain.decrees) step →
+  pub voted_known : (step : Step) → grows ≡ true → IsStep k (on_known k.setup (kept_of k) id m vote.chain.decrees) step →
       IsStep k (voted_in k.setup (kept_of k) sender (slot_in vote) (vote_of vote)) step
-  voted_known is_known is = subst (λ (s : Stepped). IsStep k s step) (ap heard_if (sym is_known) ∙ voted_is) is
+  voted_known step is_known is = subst (λ (s : Stepped). IsStep k s step) (ap heard_if (sym is_known) ∙ voted_is) is
 
 -- a vote that is counted anew
-pub voted_anew : (k : Holding) (sender : ℕ) (vote : Cast) (c : Counted) (step : Step) → AreOwn k → id_concerns k.setup (kept_of k) vote.chain.id ≡ true →
-    IsCountedSo k sender vote c → IsCounting k c step → IsStep k (voted_in k.setup (kept_of k) sender (slot_in vote) (vote_of vote)) step
-voted_anew k sender vote c step own test so is =
+pub voted_anew : (k : Holding) (sender : ℕ) (vote : Cast) (c : Counted) → AreOwn k → id_concerns k.setup (kept_of k) vote.chain.id ≡ true →
+    IsCountedSo k sender vote c → IsQuietStep k (voted_in k.setup (kept_of k) sender (slot_in vote) (vote_of vote)) (record { counted = Some c })
+voted_anew k sender vote c own test so =
     let entries = k.messages.entries in
     let new = recounted_in so.message c.recount in
     let counted : recounted_at entries c.id c.recount ≡ with_value entries vote.chain.id new =
     ap (λ (id : ℕ). recounted_at entries id c.recount) so.about ∙ recounted_there entries vote.chain.id c.recount so.message so.kept in
-    voted_only k sender vote so.message new false step own test (taken_there k vote.chain.id so.message so.kept) so.heard.heard refl (record {
-      gives = is.gives;
-      change = is.change;
-      next = record {
-        clock = is.clock;
-        serial = is.serial;
-        given = is.given;
-        drops = is.drops;
-        queue = is.queue;
-        entries = (λ i. entries_after (counted_if (is.counted i) entries) (is.messages i)) ∙ counted;
-        count = subst (MayCount entries) (sym is.counted) (record {
-          message = so.message;
-          kept = ap (value_at entries) so.about ∙ so.kept;
-          fits = so.heard.fits;
-        });
-        room = rw is.messages (omega arith, omega arith);
-      };
+    voted_quietly k sender vote so.message new false own test (taken_there k vote.chain.id so.message so.kept) so.heard.heard (Some c) refl counted (record {
+      message = so.message;
+      kept = ap (value_at entries) so.about ∙ so.kept;
+      fits = so.heard.fits;
     })

@@ -1,21 +1,14 @@
 -- A tick that finds nothing due.
-use Rattle.std.specs.Prelude.{◌≡◌, ℕ, max, Bool, false, IfSome, List, [], Option, None}
-use Rattle.std.specs.Global.{Vec}
+use Rattle.std.specs.Prelude.{◌≡◌, ℕ, max, Bool, false, List, None}
 use Rattle.mc_model.specs.synod.Lists.{In}
 use Rattle.mc_model.specs.node.Setup.{Setup}
 use Rattle.node_model.specs.Kept.{Held, Kept}
-use Rattle.node_model.specs.Outputs.{leaves}
-use Rattle.node_model.specs.Stepped.{stepped}
 use Rattle.node_model.specs.Requests.{is_untold}
 use Rattle.node_model.specs.Rules.{first_rule}
-use Rattle.node_model.specs.Ticks.{ids_of, is_late, on_tick, ticked}
+use Rattle.node_model.specs.Ticks.{ids_of, is_late, ticked}
 use Rattle.delivery.specs.Targets.{is_up}
 use Rattle.node_parts.specs.declared.input.Input.{Input}
 use Rattle.node_parts.specs.declared.input.Input.TheVariants.{Answered, Grant, Packet, Request, Tick}
-use Rattle.node_kept.specs.declared.kept.Kept.{Kept as Holding}
-use Rattle.node_kept.specs.declared.step.Step.{Step}
-use Rattle.node_kept.specs.Keeping.{kept_of}
-use Rattle.node_kept.specs.Steps.{input_of}
 
 -- no rule fits a message that is kept or asked of
 abbrev pub NoneFits : Setup → Kept → ℕ → (List ℕ → Bool) → Type 0

@@ -24,6 +24,7 @@ use Rattle.shelf.specs.Shelved.{with_value}
 use Rattle.synod_acceptor.specs.Packets.{packet_of}
 use Rattle.synod_acceptor.specs.Votes.{record_of, slot_recorded}
 use Rattle.synod_acceptor.specs.declared.acceptor.Verdict.{Verdict}
+use Rattle.synod_acceptor.specs.declared.packet.Packet.{Packet as Came}
 use Rattle.synod_acceptor.specs.declared.record.Change.{Change}
 use Rattle.node_parts.specs.declared.fault.StepFault.{StepFault}
 use Rattle.node_parts.specs.declared.fault.StepFault.TheVariants as faults
@@ -41,6 +42,7 @@ use Rattle.node_kept.specs.declared.queue_change.QueueChange.TheVariants as chan
 use Rattle.node_kept.specs.declared.step.Counted.{Counted}
 use Rattle.node_kept.specs.declared.step.Next.{Next}
 use Rattle.node_kept.specs.declared.step.Put.{Put}
+use Rattle.node_kept.specs.declared.step.QuietStep.{QuietStep}
 use Rattle.node_kept.specs.declared.step.Step.{Step}
 use Rattle.node_kept.specs.Keeping.{AreOf, AreOwn, kept_of, records_of}
 use Rattle.node_kept.specs.Queueing.{AreAsked, HasPlace, requeued}
@@ -204,14 +206,14 @@ pub record IsAnswer (k : Holding) (id : ℕ) (m : Filed) (verdict : Verdict) (st
 abbrev pub giving : List Packet → List Receipt → Outputs
 giving packets receipts = record nothing { packets = packets; receipts = receipts }
 
--- it counts a vote anew, and does nothing else
-pub record IsCounting (k : Holding) (c : Counted) (step : Step) : Type 0 where
+-- it counts this vote anew, if there is one, and does nothing else
+pub record IsCounting (k : Holding) (counted : Option Counted) (step : Step) : Type 0 where
   pub gives : outputs_of step.outputs ≡ nothing
   pub change : step.change ≡ None
   pub clock : step.next.clock ≡ k.clock
   pub serial : step.next.serial ≡ k.serial
   pub given : step.next.given ≡ k.given
-  pub counted : step.next.counted ≡ Some c
+  pub counted_is : step.next.counted ≡ counted
   pub drops : step.next.drops_rounds ≡ false
   pub queue : step.next.queue ≡ changes.Same
   pub messages : step.next.messages.items ≡ []
@@ -222,7 +224,25 @@ pub record IsLeft (k : Holding) (id : ℕ) (m : Filed) (outputs : Outputs) (step
   pub change : step.change ≡ None
   pub next : IsNext k id m step.next
 
--- it gives nothing out and saves nothing
-pub record IsQuietStep (step : Step) : Type 0 where
-  pub gives : outputs_of step.outputs ≡ nothing
-  pub change : step.change ≡ None
+-- ---- a step that gives nothing out and saves nothing
+
+-- what is kept once this vote is counted anew, if there is one
+abbrev pub with_counted : Option Counted → Holding → Holding
+with_counted counted k = record k { messages = record k.messages { entries = counted_if counted k.messages.entries } }
+
+-- it is this one
+pub record IsQuietStep (k : Holding) (to : Stepped) (quiet : QuietStep) : Type 0 where
+  pub kept : kept_of (with_counted quiet.counted k) ≡ to.kept
+  pub gives : to.outputs ≡ nothing
+  pub records : records_of (counted_if quiet.counted k.messages.entries) ≡ records_of k.messages.entries
+  pub own : AreOwn k → AreOwn (with_counted quiet.counted k)
+  pub count : MayCount k.messages.entries quiet.counted
+
+-- it is that of this packet, and was taken
+pub record IsTakenQuietly (old : Holding) (packet : Came) (new : Holding) : Type 0 where
+  pub kept : kept_of new ≡ (stepped old.setup (kept_of old) (Delivery (packet_of packet))).kept
+  pub gives : (stepped old.setup (kept_of old) (Delivery (packet_of packet))).outputs ≡ nothing
+  pub records : records_of new.messages.entries ≡ records_of old.messages.entries
+  pub own : AreOwn new
+  pub setup : new.setup ≡ old.setup
+  pub incarnation : new.incarnation ≡ old.incarnation

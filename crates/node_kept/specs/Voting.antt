@@ -1,12 +1,9 @@
 -- What a node does with a vote that concerns it, or does not.
-use Rattle.std.specs.Prelude.{◌≡◌, ℕ, Bool, ◌==◌, ◌||◌, not, List, [], Some, None, if◌then◌else◌}
+use Rattle.std.specs.Prelude.{◌≡◌, ℕ, Bool, ◌==◌, ◌||◌, not, Some, if◌then◌else◌}
 use Rattle.mc_model.specs.message.Ids.{node_of}
-use Rattle.mc_model.specs.message.Decree.{Decree}
 use Rattle.mc_model.specs.synod.OneSlot.{Vote}
 use Rattle.mc_model.specs.synod.Packet.{Slot}
-use Rattle.mc_model.specs.node.Outputs.{Receipt}
 use Rattle.mc_model.specs.node.Setup.{Setup}
-use Rattle.node_model.specs.Answers.{receipts_of}
 use Rattle.node_model.specs.Kept.{Kept}
 use Rattle.node_model.specs.Outputs.{Stepped, leaves}
 use Rattle.node_model.specs.Packets.{on_voted, vote_concerns, was_given}

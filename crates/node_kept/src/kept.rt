@@ -25,14 +25,13 @@ ghost use Rattle.node_kept.specs.declared.queue_change.QueueChange.TheVariants.{
 ghost use Rattle.waiting_requests.specs.Waiting.{held_in};
 ghost use Rattle.node_kept.specs.Voting.{IsCountedSo, id_concerns, voted_in};
 ghost use Rattle.node_kept.specs.Preparing.{IsPrepared};
-ghost use Rattle.node_parts.specs.declared.input.Input.TheVariants as inputs;
-ghost use Rattle.node_kept.specs.Steps.{HasRoom, IsAnswer, IsCounting, IsFault, IsInstalled, IsLeft, IsNext, IsQuietStep, IsStep, IsStepFor, MayCount};
+ghost use Rattle.node_kept.specs.Steps.{HasRoom, IsAnswer, IsCounting, IsFault, IsInstalled, IsLeft, IsNext, IsQuietStep, IsStep, IsTakenQuietly, MayCount};
 ghost use Rattle.node_kept.specs.Steps.{counted_if, entries_after, giving, refused_by, rested_if};
 ghost use Rattle.node_model.specs.Reported.{receipt_of};
 
 use crate::queue_change::QueueChange;
 use crate::setup::Setup;
-use crate::step::{Counted, Next, Put, Step};
+use crate::step::{Counted, Next, Put, QuietStep, Step};
 use fate_chain::{Author, Chain, Decree, Kind};
 use mc_types::{Ballot, Incarnation, Moment, MsgId, NodeNo, Slot};
 use node_parts::{Input, Message, MessageShelf, Outputs, StepFault, sender};
@@ -148,16 +147,31 @@ impl Kept {
         }
     }
 
-    /// The step that a packet leads to, if it is one that gives nothing out, saves nothing and copies nothing: a promise for which no round runs, a vote that
-    /// does not concern the node or is counted where it stands, and what is told to a question that is not its own. It takes no memory.
+    /// Takes the step of a packet, if it is one that gives nothing out, saves nothing and copies nothing: a promise for which no round runs, a vote that does
+    /// not concern the node or is counted where it stands, and what is told to a question that is not its own. False leaves it as it was. It takes no memory.
     #[inline(always)]
-    pub fn quiet_step(&self, packet: &Packet) -> Option<Step>
+    pub fn take_quietly(&mut self, packet: &Packet) -> bool
+        requires { AreOwn self.old }
+        ensures taken { result ≡ true → IsTakenQuietly self.old packet.now self.new }
+        ensures stays { result ≡ false → self.new ≡ self.old }
+    {
+        match self.quiet_step(packet) {
+            Some(quiet) => {
+                count_if(&mut self.messages, quiet.counted);
+                true
+            }
+            None => false,
+        }
+    }
+
+    /// What the step of a packet does, if it is one that `take_quietly` takes.
+    #[inline(always)]
+    fn quiet_step(&self, packet: &Packet) -> Option<QuietStep>
         requires { AreOwn self.now }
-        ensures step { IfSome result (IsStepFor self.now (inputs.Packet packet.now)) }
-        ensures quiet { IfSome result IsQuietStep }
+        ensures { IfSome result (IsQuietStep self.now (on_packet self.now.setup (kept_of self.now) (packet_of packet.now))) }
     {
         if !self.is_member(sender(packet)) {
-            return Some(self.same());
+            return Some(self.unmoved());
         }
         match packet {
             Packet::Promise {
@@ -169,6 +183,14 @@ impl Kept {
             Packet::Tell { from, name, told } => self.quiet_tell(*from, *name, told.as_ref()),
             _ => None,
         }
+    }
+
+    /// It does nothing.
+    #[inline(always)]
+    pub(crate) fn unmoved(&self) -> QuietStep
+        ensures { IsQuietStep self.now (leaves (kept_of self.now)) result }
+    {
+        QuietStep { counted: None }
     }
 
     /// The step that a packet leads to. An `Err` is want of memory.
@@ -332,24 +354,23 @@ impl Kept {
         ensures { IfOk result (IsStep self.now (on_promise self.now.setup (kept_of self.now) from (slot_reported report.now) ballot (report_of report.now))) }
     {
         match self.quiet_promise(from, ballot, report) {
-            Some(step) => Ok(step),
+            Some(quiet) => Ok(self.quietly(quiet)),
             None => self.promised(from, ballot, report),
         }
     }
 
-    /// The step of a promise for which no round runs: it does nothing. It takes no memory.
+    /// What it does with a promise for which no round runs, which is nothing. It takes no memory.
     #[inline(always)]
-    fn quiet_promise(&self, from: NodeNo, ballot: Ballot, report: &Report) -> Option<Step>
-        ensures step { IfSome result (IsStep self.now
+    fn quiet_promise(&self, from: NodeNo, ballot: Ballot, report: &Report) -> Option<QuietStep>
+        ensures step { IfSome result (IsQuietStep self.now
             (on_promise self.now.setup (kept_of self.now) from (slot_reported report.now) ballot (report_of report.now))) }
-        ensures quiet { IfSome result IsQuietStep }
         ensures runs { result ≡ None →
             runs_at (message_at (kept_of self.now) (slot_reported report.now).id).round (slot_reported report.now) ballot ≡ true }
     {
         if self.runs_for(ballot, report) {
             return None;
         }
-        Some(self.same())
+        Some(self.unmoved())
     }
 
     /// What it does with a promise in a round that runs.
@@ -393,26 +414,25 @@ impl Kept {
         ensures { IfOk result (IsStep self.now (voted_in self.now.setup (kept_of self.now) from (slot_in vote.now) (vote_of vote.now))) }
     {
         match self.quiet_vote(from, vote) {
-            Some(step) => Ok(step),
+            Some(quiet) => Ok(self.quietly(quiet)),
             None => self.heard(from, vote),
         }
     }
 
-    /// The step of a vote that is told, if it does not concern the node, or is counted where it stands. It takes no memory.
+    /// What it does with a vote that is told, if that does not concern it, or is counted where it stands. It takes no memory.
     #[inline(always)]
-    fn quiet_vote(&self, from: NodeNo, vote: &Vote) -> Option<Step>
+    fn quiet_vote(&self, from: NodeNo, vote: &Vote) -> Option<QuietStep>
         requires { AreOwn self.now }
-        ensures step { IfSome result (IsStep self.now (voted_in self.now.setup (kept_of self.now) from (slot_in vote.now) (vote_of vote.now))) }
-        ensures quiet { IfSome result IsQuietStep }
+        ensures step { IfSome result (IsQuietStep self.now (voted_in self.now.setup (kept_of self.now) from (slot_in vote.now) (vote_of vote.now))) }
         ensures concerns { result ≡ None → id_concerns self.now.setup (kept_of self.now) vote.now.chain.id ≡ true }
     {
         if !self.concerns(vote.chain.id()) {
-            return Some(self.same());
+            return Some(self.unmoved());
         }
-        match self.counted(from, vote) {
-            Some(counted) => Some(self.counting(counted)),
-            None => None,
-        }
+        let counted = self.counted(from, vote)?;
+        Some(QuietStep {
+            counted: Some(counted),
+        })
     }
 
     /// What it does with a vote that concerns it.
@@ -443,13 +463,13 @@ impl Kept {
         Some(Counted { id, recount })
     }
 
-    /// The step that counts a vote so, and does nothing else. It takes no memory.
+    /// The step that does so much. It takes no memory.
     #[inline(always)]
-    fn counting(&self, counted: Counted) -> Step
-        ensures { IsCounting self.now counted result }
+    fn quietly(&self, quiet: QuietStep) -> Step
+        ensures { IsCounting self.now quiet.counted result }
     {
         let mut next = self.unchanged();
-        next.counted = Some(counted);
+        next.counted = quiet.counted;
         Step {
             outputs: Outputs::nothing(self.alloc),
             change: None,

@@ -20,6 +20,12 @@ pub struct Counted {
     pub recount: Recount,
 }
 
+/// What a step does that gives nothing out and saves nothing: it counts a vote anew, if there is one to be counted, and no more.
+#[derive(Clone, Copy)]
+pub(crate) struct QuietStep {
+    pub counted: Option<Counted>,
+}
+
 /// What is kept after a step: the clock, the serial of the next message, how many tickets are given, the vote that is counted anew, if one is,
 /// whether all rounds end, what becomes of the requests that wait, and then each message that is not kept as it was, with room for them, if
 /// room is wanted. Of several messages of an id the first counts. A tick has the accounts with which it was made: with these it is noted until

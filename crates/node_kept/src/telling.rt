@@ -17,7 +17,7 @@ ghost use Rattle.node_kept.specs.Telling.{IsVerdict, asked_by, next_told, starte
 
 use crate::kept::Kept;
 use crate::queue_change::QueueChange;
-use crate::step::Step;
+use crate::step::{QuietStep, Step};
 use fate_chain::Chain;
 use mc_types::{MsgId, NodeNo};
 use std::alloc::AllocError;
@@ -46,20 +46,25 @@ impl Kept {
         self.hear(held, from, told)
     }
 
-    /// The step of what a node tells to a question that is not of a request that waits here, or not about its message: it does nothing. It takes no memory.
+    /// What it does with what a node tells to a question that is not of a request that waits here, or not about its message, which is nothing. It takes no
+    /// memory.
     #[inline(always)]
-    pub(crate) fn quiet_tell(&self, from: NodeNo, name: Name, told: Option<&Vote>) -> Option<Step>
-        ensures step { IfSome result (IsStep self.now
+    pub(crate) fn quiet_tell(
+        &self,
+        from: NodeNo,
+        name: Name,
+        told: Option<&Vote>,
+    ) -> Option<QuietStep>
+        ensures { IfSome result (IsQuietStep self.now
             (on_tell self.now.setup (kept_of self.now) from name (told_vote (option_copied told.entry)))) }
-        ensures quiet { IfSome result IsQuietStep }
     {
         let Some(held) = self.asked(name) else {
-            return Some(self.same());
+            return Some(self.unmoved());
         };
         if held.is_told_by(told) {
             return None;
         }
-        Some(self.same())
+        Some(self.unmoved())
     }
 
     /// What it does with what a node tells to a request that waits for it.

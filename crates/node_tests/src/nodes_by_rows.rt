@@ -134,9 +134,9 @@ fn quiet_at(rt: &impl Abort, alloc: Global, node: &mut Node<ListStore>, line: &s
     let Input::Packet(packet) = input(rt, alloc, line) else {
         panic!(rt; "a packet");
     };
-    let given = node.take_quietly(&packet);
+    let taken = node.take_quietly(&packet);
     drop(packet);
-    given.is_some()
+    taken
 }
 
 // No round of it runs, and it asks nothing. The first vote and the one that makes the chain known take memory.

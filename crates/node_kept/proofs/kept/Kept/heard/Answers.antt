@@ -13,8 +13,8 @@ pub returns-then-not-branch : goal.returns-then-not-branch
 returns-then-not-branch c =
     let taken = rw c.id-id.ensures at c.in_ok-message.ensures in
     IfOk-weaker c.leave.result _ _ (λ step is.
-    voted_only c.args.self.now c.args.from c.args.vote.now c.in_ok-message.message c.heard.new.self c.in_ok-heard.field-0 step c.requires.own
-    c.requires.concerns taken c.in_ok-heard.ensures c.if-not-branch.true (rw c.id-id.ensures at is)) c.leave.ensures
+    voted_only c.args.self.now c.args.from c.args.vote.now c.in_ok-message.message c.heard.new.self c.in_ok-heard.field-0 c.requires.own
+    c.requires.concerns taken c.in_ok-heard.ensures step c.if-not-branch.true (rw c.id-id.ensures at is)) c.leave.ensures
 
 pub returns : goal.returns
 returns c =
@@ -24,10 +24,10 @@ returns c =
     let is_known = c.if-not-branch.false in
     let grows = c.in_ok-heard.field-0 in
     IfOk-weaker c.learned.result _ _ (λ step is.
-    voted_known k c.args.from c.args.vote.now c.in_ok-message.message c.heard.new.self grows step c.requires.own c.requires.concerns taken
-    c.in_ok-heard.ensures is_known
+    voted_known k c.args.from c.args.vote.now c.in_ok-message.message c.heard.new.self grows c.requires.own c.requires.concerns taken
+    c.in_ok-heard.ensures step is_known
     (is (heard (message_at (kept_of k) c.args.vote.now.chain.id) c.args.from (vote_of c.args.vote.now))
-    (known_as k c.args.from c.args.vote.now c.in_ok-message.message c.heard.new.self grows step c.requires.own c.requires.concerns taken
+    (known_as k c.args.from c.args.vote.now c.in_ok-message.message c.heard.new.self grows c.requires.own c.requires.concerns taken
     c.in_ok-heard.ensures is_known) fate
-    (known_anew k c.args.from c.args.vote.now c.in_ok-message.message c.heard.new.self grows step c.requires.own c.requires.concerns taken
+    (known_anew k c.args.from c.args.vote.now c.in_ok-message.message c.heard.new.self grows c.requires.own c.requires.concerns taken
     c.in_ok-heard.ensures is_known))) c.learned.ensures
