@@ -6,16 +6,19 @@ use Rattle.std.specs.List.{slice_get}
 use Rattle.std.proofs.Math.ListN.{set}
 use Rattle.std.proofs.lemmas.List.{length-set}
 use Rattle.std.proofs.lemmas.Option.{get_or_from_slice_get, slice_get-get_or, slice_get_within}
+use Rattle.node_model.specs.Outputs.{nothing}
 use Rattle.node_core.specs.Input.{Input}
+use Rattle.node_core.specs.Input.TheVariants as inputs
 use Rattle.sim_net.proofs.Numbers.{set_get}
 use Rattle.world.specs.declared.given.Given.{Given}
 use Rattle.synod_acceptor.specs.declared.packet.Packet.{Packet}
 use Rattle.world.specs.declared.fault.WorldFault.{WorldFault}
-use Rattle.world.specs.Members.{HasBegun, HasStopped, HasTaken, IsPlace, IsSentIn, IsUnmoved, Keeps}
-use Rattle.world.specs.Runs.{IsSomewhere}
+use Rattle.world.specs.Members.{HasBegun, HasPassed, HasStopped, HasTaken, IsPlace, IsSentIn, IsUnmoved, IsUpAt, Keeps}
+use Rattle.world.specs.Runs.{IsGiven, IsSomewhere}
 use Rattle.world.specs.Scenes.{Placed, Scene, is_up, is_up_in}
 use Rattle.world.proofs.Going.{stays}
 use Rattle.world.proofs.Leading.{taken}
+use Rattle.world.proofs.Sending.{sent_nothing}
 
 pub unmoved : (m : Placed) → IsUnmoved m m
 unmoved m = record { kept = refl; up = refl; stored = record { each = λ slot. refl } }
@@ -69,6 +72,21 @@ pub found_member : (old : Scene) (items : List Placed) (place : ℕ) (called : P
     called ≡ get_or items place called → slice_get old.members place ≡ Some called
 found_member old items place called same inside is =
     subst (λ (ms : List Placed). slice_get ms place ≡ Some called) same (slice_get-get_or items place called inside ∙ ap Some (sym is))
+
+-- a node that took the step of a packet quietly took it
+pub taken_quietly : (old : Scene) (items : List Placed) (sent : List Packet) (node place : ℕ) (called after : Placed) (packet : Packet) (given : Given) →
+    (at : IsUpAt old node place) → items ≡ old.members → sent ≡ old.packets → called ≡ get_or items place called → HasPassed called packet after →
+    IsGiven given nothing → HasTaken old node (inputs.Packet packet) given (record { members = set items place after; packets = sent; fresh = false })
+taken_quietly old items sent node place called after packet given at members packets is has gives = record {
+  place = place;
+  member = at.member;
+  is = at.is;
+  up = at.up;
+  after = after;
+  sent = sent_nothing at.member after packet old.packets sent given
+      (subst (λ (m : Placed). HasPassed m packet after) (same_member old items place at.member called members at.is.found is) has) gives packets;
+  changed = record { members = ap (λ (ms : List Placed). set ms place after) members; fresh = refl };
+}
 
 -- ---- whether a node is up
 

@@ -25,7 +25,7 @@ use Rattle.node_core.specs.Listing.{ListsRecorded}
 use Rattle.node_core.specs.Setups.{setup_with}
 use Rattle.node_core.specs.Steps.{GrantsKnown, IsFault as IsStepFault, input_of, refused_by}
 use Rattle.node_core.specs.declared.life.Life.{Life}
-use Rattle.node_core.specs.Nodes.{IsLifeOf, Standing}
+use Rattle.node_core.specs.Nodes.{HasTakenQuietly, IsLifeOf, Standing}
 use Rattle.node_runs.specs.Runs.{may_come_to}
 use Rattle.world.specs.declared.fault.WorldFault.{WorldFault}
 use Rattle.world.specs.declared.fault.WorldFault.TheVariants as faults
@@ -91,6 +91,13 @@ pub record HasSent (old : Placed) (input : Input) (before : List Packet) (given 
   pub gives : IsGiven given (step_by old input).outputs
   pub granted : GrantsKnown (kept_of old.node.kept) input given.granted
   pub packets : map packet_of after ≡ map packet_of before ++ (step_by old input).outputs.packets
+
+-- It took the step of a packet, which gives nothing out.
+pub record HasPassed (old : Placed) (packet : Packet) (new : Placed) : Type 0 where
+  pub one : IsOneOf old.node.kept.setup
+  pub well : IsWellMade (packet_of packet)
+  pub up : new.up ≡ true
+  pub taken : HasTakenQuietly old.node packet new.node
 
 -- It took the step of a packet, of which nothing was sent.
 pub record HasSaved (old : Placed) (packet : Packet) (new : Placed) : Type 0 where
@@ -204,6 +211,13 @@ pub record IsAddressed (w : Scene) (number node place : ℕ) (packet : Packet) :
   pub up : IsUpAt w node place
   pub packet_is : numbered w.packets number ≡ Some packet
   pub sent : In packet w.packets
+
+-- the packet with a number came to a node that is up, which took its step and gave nothing out
+pub record HasComeQuietly (old : Scene) (number node : ℕ) (given : Given) (new : Scene) : Type 0 where
+  pub packet : Packet
+  pub place : ℕ
+  pub addressed : IsAddressed old number node place packet
+  pub taken : HasTaken old node (inputs.Packet packet) given new
 
 -- a node that is up stopped as a packet came
 pub record HasStopped (old : Scene) (place : ℕ) (packet : Packet) (behind : Bool) (given : Given) (new : Scene) : Type 0 where

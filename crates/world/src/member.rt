@@ -1,14 +1,13 @@
 //! One node of a world.
 
-ghost use Rattle.std.specs.Prelude.{◌≡◌, ◌↔◌, ◌⊎◌, ◌≤◌, None, true, IfErr, IfOk, IfSome, IsErrOf, OnErr, OnOk};
-ghost use Rattle.node_model.specs.Outputs.{nothing};
+ghost use Rattle.std.specs.Prelude.{◌≡◌, ◌↔◌, ◌⊎◌, ◌≤◌, false, true, IfErr, IfOk, IsErrOf, OnErr, OnOk};
 ghost use Rattle.node_core.specs.StepFault.TheVariants.{Memory};
 ghost use Rattle.node_core.specs.Keeping.{kept_of};
-ghost use Rattle.node_core.specs.Steps.{IsFault, outputs_of, refused_by};
+ghost use Rattle.node_core.specs.Steps.{IsFault, refused_by};
 ghost use Rattle.node_core.specs.Nodes.{HasTaken};
 ghost use Rattle.node_core.specs.Stops.{is_after};
 ghost use Rattle.stable_store.specs.declared.fault.StoreFault.TheVariants as stores;
-ghost use Rattle.world.specs.Members.{HasCrashed, HasRestarted, HasSaved, HasSent, IsOpened, IsUnmoved};
+ghost use Rattle.world.specs.Members.{HasCrashed, HasPassed, HasRestarted, HasSaved, HasSent, IsOpened, IsUnmoved};
 
 use crate::given::Given;
 use mc_types::{LAST_INCARNATION, Moment};
@@ -84,23 +83,6 @@ impl Member {
     {
         self.node.bounds();
         may_come(&self.node, &input);
-        match self.take_quietly(&input) {
-            Some(outputs) => Ok(Given::send(outputs, packets)),
-            None => self.take_prepared(input, packets),
-        }
-    }
-
-    /// Prepares the step of an input, takes it, and sends its packets. The refusals are those of `take`.
-    #[inline(always)]
-    fn take_prepared(&mut self, input: Input, packets: &mut Packets) -> Result<Given, StepFault>
-        requires { self.old.up ≡ true }
-        ensures taken { IfOk result (λ given. HasSent self.old input packets.old.sent given self.new packets.new.sent) }
-        ensures faults { IfErr result (IsFault (refused_by self.old.node.kept.setup (kept_of self.old.node.kept) input)) }
-        ensures stays { OnErr result (IsUnmoved self.old self.new) }
-        ensures sent { OnErr result (packets.new.sent ≡ packets.old.sent) }
-    {
-        self.node.bounds();
-        may_come(&self.node, &input);
         let pending = self.node.prepare_step(input)?;
         let Ok(()) = packets.make_room(pending.outputs().packets.len()) else {
             drop(pending);
@@ -110,18 +92,16 @@ impl Member {
         Ok(Given::send(outputs, packets))
     }
 
-    /// Takes the step of an input, if it is a packet whose step the node takes quietly. None leaves it as it was. It takes no memory.
+    /// Takes the step of a packet, if the node takes it quietly. False leaves it as it was. It takes no memory.
     #[inline(always)]
-    fn take_quietly(&mut self, input: &Input) -> Option<Outputs>
-        ensures taken { IfSome result (HasTaken self.old.node input.now self.new.node) }
-        ensures nothing { IfSome result (λ outputs. outputs_of outputs ≡ nothing) }
-        ensures up { self.new.up ≡ self.old.up }
-        ensures stays { result ≡ None → self.new ≡ self.old }
+    pub fn take_quietly(&mut self, packet: &Packet) -> bool
+        requires { self.old.up ≡ true }
+        ensures taken { result ≡ true → HasPassed self.old packet.now self.new }
+        ensures stays { result ≡ false → self.new ≡ self.old }
     {
-        match input {
-            Input::Packet(packet) => self.node.take_quietly(packet),
-            _ => None,
-        }
+        self.node.bounds();
+        is_well_made(packet);
+        self.node.take_quietly(packet)
     }
 
     /// Commits what was prepared, if the node is as it was then. A store in memory does not fail, so an `Err` is want of memory; then nothing

@@ -1,10 +1,10 @@
 //! A world: its nodes, and the packets between them.
 
-ghost use Rattle.std.specs.Prelude.{◌≡◌, ◌+◌, ◌<◌, ◌≤◌, [], true, length, IfErr, IfOk, OnErr, OnOk, Some};
+ghost use Rattle.std.specs.Prelude.{◌≡◌, ◌+◌, ◌<◌, ◌≤◌, [], true, length, IfErr, IfOk, IfSome, None, OnErr, OnOk, Some};
 ghost use Rattle.mc_model.specs.synod.Lists.{In};
 ghost use Rattle.node_core.specs.Stops.{is_after};
 ghost use Rattle.mc_model.specs.message.Ids.{IsSerial};
-ghost use Rattle.world.specs.Members.{AreOpened, CantBegin, DoesNotTake, HasBegun, HasForgotten, HasStopped, HasTaken, IsAddressed};
+ghost use Rattle.world.specs.Members.{AreOpened, CantBegin, DoesNotTake, HasBegun, HasComeQuietly, HasForgotten, HasStopped, HasTaken, IsAddressed};
 ghost use Rattle.world.specs.Members.{IsSentIn, IsUpAt, Keeps, RefusesTo, away_in, undelivered_in};
 ghost use Rattle.node_laws.specs.Clusters.{cluster_with};
 ghost use Rattle.world.specs.Runs.{HaltsOver, IsAt, IsFault, IsSomewhere, IsStartFault, Leads, StartsOver, leaves_up, node_at, start_refusal};
@@ -177,9 +177,9 @@ impl World {
         ensures least { OnOk result (1 ≤ number) }
         ensures up { OnOk result (is_up_in self.new (node_at (steps.Deliver number node)) ≡ leaves_up (steps.Deliver number node)) }
     {
-        match self.addressed(number, node) {
-            Ok((place, packet)) => self.take_at(node, place, Input::Packet(packet)),
-            Err(fault) => Err(fault),
+        match self.take_quietly(number, node) {
+            Some(given) => Ok(given),
+            None => self.take_sent(number, node),
         }
     }
 
@@ -206,6 +206,37 @@ impl World {
             return Err(WorldFault::NoSuchNode);
         }
         self.restart_at(place)
+    }
+
+    /// The same, of a copy of the packet.
+    #[inline(always)]
+    fn take_sent(&mut self, number: u64, node: NodeNo) -> Result<Given, WorldFault>
+        ensures leads { Leads self.old (steps.Deliver number node) result self.new }
+        ensures least { OnOk result (1 ≤ number) }
+        ensures up { OnOk result (is_up_in self.new (node_at (steps.Deliver number node)) ≡ leaves_up (steps.Deliver number node)) }
+    {
+        match self.addressed(number, node) {
+            Ok((place, packet)) => self.take_at(node, place, Input::Packet(packet)),
+            Err(fault) => Err(fault),
+        }
+    }
+
+    /// The packet with this number comes to a node, if the node takes its step quietly. None leaves the world as it was, and says nothing of the packet. It
+    /// takes no memory.
+    #[inline(always)]
+    fn take_quietly(&mut self, number: u64, node: NodeNo) -> Option<Given>
+        ensures taken { IfSome result (λ given. HasComeQuietly self.old number node given self.new) }
+        ensures stays { result ≡ None → self.new ≡ self.old }
+    {
+        let Ok(place) = self.place_up(node) else {
+            return None;
+        };
+        let packet = self.packets.get(number)?;
+        if !self.members[place].take_quietly(packet) {
+            return None;
+        }
+        self.fresh = false;
+        Some(Given::nothing(self.alloc))
     }
 
     /// The place of a node that is up, and the packet with this number.
