@@ -156,6 +156,7 @@ impl Centre {
     }
 
     /// Adds the lines of what a step of the node at a place gave out. If there is no such node, it does nothing.
+    #[inline(always)]
     fn tell(&mut self, at: usize, given: Given, text: &mut Vec<u8>) -> Result<(), AllocError>
         ensures { OnOk result (Tells self.old at given self.new text.old.items text.new.items) }
     {

@@ -1,5 +1,5 @@
 -- What a site does, one thing after another.
-use Rattle.std.proofs.Common.{◌≡◌, ℕ, List, ◌++◌, Result, Ok, Err, refl, sym, ap, subst, ◌∙◌}
+use Rattle.std.proofs.Common.{◌≡◌, ℕ, List, [], ◌∷◌, length, map, ◌++◌, Result, Ok, Err, refl, sym, ap, subst, ◌∙◌, arith}
 use Rattle.std.proofs.lemmas.List.{append-nil}
 use Rattle.std.specs.Prelude.{OnOk}
 use Rattle.std.specs.declared.alloc.AllocError.{AllocError}
@@ -134,3 +134,18 @@ told_acts r at middle last replies receipts now before text after went waiting c
     (replies_act at middle replies before text went waiting)
     (posted_acts r mid last (all_posted now (mail_in middle) receipts) (λ runner. all_posted runner.node.kept.clock (mail_of runner) receipts) text after
     (λ w runner running. λ i. all_posted ((clock ∙ clock_so at.site.node mid w runner running) i) (mail_is at.site.node mid w runner running i) receipts) posted)
+
+-- nothing was given out
+
+pub none_mapped : {A B : Type 0} (f : A → B) (xs : List A) → length xs ≡ 0 → map f xs ≡ []
+none_mapped f [] none = refl
+none_mapped f (x ∷ xs) none = absurd (omega (arith, none))
+
+pub told_nothing : (at : Placed) (replies : List Reply) (receipts : List Receipt) (text : List ℕ) → replies ≡ [] → receipts ≡ []
+    → Acts at.site.node (λ runner. tells runner replies receipts) at at text text
+unfolding told all_posted
+told_nothing at replies receipts text no_reply no_receipt =
+    subst (λ (rs : List Reply). Acts at.site.node (λ runner. tells runner rs receipts) at at text text) (sym no_reply)
+    (subst (λ (rs : List Receipt). Acts at.site.node (λ runner. tells runner [] rs) at at text text) (sym no_receipt)
+    (told_acts (Ok tt) at at.site.service at.site.service [] [] (clock_in at.world at.site.node) text text text
+    (record { sessions = refl; text = sym (append-nil text) }) refl refl (record { mail = refl; text = sym (append-nil text) })))

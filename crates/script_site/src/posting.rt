@@ -47,6 +47,7 @@ pub(crate) fn post_for_all(
 }
 
 /// Receipts are due, by the chains of their messages: adds the lines of those that go out now, one after the other; the others wait.
+#[inline(always)]
 pub(crate) fn post_all(
     text: &mut Vec<u8>,
     node: NodeNo,

@@ -14,6 +14,7 @@ use std::alloc::AllocError;
 use waiting_requests::Reply;
 
 /// Adds the lines of replies to requests that waited, one after another.
+#[inline(always)]
 pub(crate) fn write_replies(
     text: &mut Vec<u8>,
     node: NodeNo,

@@ -337,6 +337,7 @@ impl Site {
     }
 
     /// Adds the lines of what a step of its node gave out: its replies, and then its receipts.
+    #[inline(always)]
     pub fn tell(
         &mut self,
         world: &World,
@@ -351,6 +352,10 @@ impl Site {
             receipts,
             ..
         } = given;
+        // As after most packets.
+        if replies.is_empty() && receipts.is_empty() {
+            return Ok(());
+        }
         write_replies(text, self.node, &mut self.service, replies)?;
         let now = world.clock(self.node);
         post_all(text, self.node, &mut self.service, now, receipts)
