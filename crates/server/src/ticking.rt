@@ -124,8 +124,8 @@ pub(crate) fn tick_on<S: StableStore, L: Begins, R: Wait + Eprint + Clock>(
 /// After how many ticks a node with few message_ids left starts anew, though requests or deliveries wait there, or packets are under way.
 const PATIENCE: u32 = 30;
 
-/// Has a node start anew that has few message_ids left, once nothing waits there and all packets have come, so that no receipt is lost that is being told; or
-/// after thirty ticks. It is asked a second behind the rounds of a tick, when the attempts that these began have been made. How many ticks it has waited.
+/// Has a node start anew that has few message_ids left, once nothing waits there and all packets have come, or after thirty ticks: a receipt whose round runs
+/// then may be lost. It is asked a second behind the rounds of a tick, when the attempts that these began have been made. How many ticks it has waited.
 fn start_anew_if_low<S: StableStore, L: Begins, R: Wait + Eprint>(
     shift: &Shift<'_, S, L, R>,
     ticks: u32,
