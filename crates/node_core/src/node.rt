@@ -17,7 +17,8 @@ ghost use Rattle.node_kept.specs.Steps.{IsFault};
 ghost use Rattle.node_kept.specs.Preparing.{packet_in};
 ghost use Rattle.node_core.specs.Stops.{IsTold, IsUnfinished};
 ghost use Rattle.node_core.specs.Permits.{is_life_of};
-ghost use Rattle.node_core.specs.Nodes.{HasStopped, HasTaken, HasTakenQuietly, IsAwaited, IsLeft, IsLifeOf, IsStored, IsUnmoved, LeavesAny, OpensOver, SavesAny, breaks, fault_in, records_in, seen};
+ghost use Rattle.node_core.specs.Nodes.{HasStopped, HasTaken, HasTakenQuietly, IsAwaited, IsLeft, IsLifeOf, IsStored, IsUnmoved, LeavesAny};
+ghost use Rattle.node_core.specs.Nodes.{OpensOver, SavesAny, breaks, fault_in, records_in, seen};
 
 use crate::life::Life;
 use crate::open::begin;

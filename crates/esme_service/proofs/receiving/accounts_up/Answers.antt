@@ -33,9 +33,11 @@ returns-clause-up c =
 pub returns-in_err-copy-clause-none : goal.returns-in_err-copy-clause-none
 returns-in_err-copy-clause-none c = λ none.
     absurd (no_account_found c.args.sessions.now.entries c.loop-number.number-counter c.in-Some.account.now c.loop-number.accounts.items
-    (accounts_up c.args.sessions.now.entries) (omega (arith, c.loop-number-test.true, c.behind_last-end.ensures.most)) c.loop-number.invariant (c.in-Some.ensures ∙ ap receiver_of c.get.ensures.value) none)
+    (accounts_up c.args.sessions.now.entries)
+    (omega (arith, c.loop-number-test.true, c.behind_last-end.ensures.most)) c.loop-number.invariant (c.in-Some.ensures ∙ ap receiver_of c.get.ensures.value) none)
 
 pub returns-in_err-push-clause-none : goal.returns-in_err-push-clause-none
 returns-in_err-push-clause-none c = λ none.
     absurd (no_account_found c.args.sessions.now.entries c.loop-number.number-counter c.in-Some.account.now c.loop-number.accounts.items
-    (accounts_up c.args.sessions.now.entries) (omega (arith, c.loop-number-test.true, c.behind_last-end.ensures.most)) c.loop-number.invariant (c.in-Some.ensures ∙ ap receiver_of c.get.ensures.value) none)
+    (accounts_up c.args.sessions.now.entries)
+    (omega (arith, c.loop-number-test.true, c.behind_last-end.ensures.most)) c.loop-number.invariant (c.in-Some.ensures ∙ ap receiver_of c.get.ensures.value) none)

@@ -8,13 +8,15 @@ loop-number-init c = first_target c.args.sessions.now.entries c.args.long c.args
 
 pub returns-then-takes_for : goal.returns-then-takes_for
 returns-then-takes_for c =
-    sym (next_target c.args.sessions.now.entries c.args.long c.args.target.now c.loop-number.number-counter true (omega (arith, c.loop-number-test.true, c.behind_last-end.ensures.most))
+    sym (next_target c.args.sessions.now.entries c.args.long c.args.target.now c.loop-number.number-counter true
+    (omega (arith, c.loop-number-test.true, c.behind_last-end.ensures.most))
     (c.if-takes_for.ensures ∙ ap (takes_for c.args.long c.args.target.now) c.get.ensures.value))
     ∙ c.loop-number.invariant
 
 pub loop-number-preserved : goal.loop-number-preserved
 loop-number-preserved c =
-    sym (next_target c.args.sessions.now.entries c.args.long c.args.target.now c.loop-number.number-counter false (omega (arith, c.loop-number-test.true, c.behind_last-end.ensures.most))
+    sym (next_target c.args.sessions.now.entries c.args.long c.args.target.now c.loop-number.number-counter false
+    (omega (arith, c.loop-number-test.true, c.behind_last-end.ensures.most))
     (c.if-takes_for.ensures ∙ ap (takes_for c.args.long c.args.target.now) c.get.ensures.value))
     ∙ c.loop-number.invariant
 

@@ -14,4 +14,5 @@ returns-in-Some-clause-leads c =
 
 pub returns-in-Some-clause-up : goal.returns-in-Some-clause-up
 returns-in-Some-clause-up c =
-    taken_up c.args.self.now c.take_quietly.new.self c.args.node (inputs.Packet c.in-Some.ensures.taken.packet) (Ok c.in-Some.given) c.in-Some.ensures.taken.taken
+    taken_up c.args.self.now c.take_quietly.new.self c.args.node (inputs.Packet c.in-Some.ensures.taken.packet) (Ok c.in-Some.given)
+    c.in-Some.ensures.taken.taken
