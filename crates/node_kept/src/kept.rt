@@ -185,7 +185,7 @@ impl Kept {
         }
     }
 
-    /// It does nothing.
+    /// What a step does that leaves all as it is: nothing.
     #[inline(always)]
     pub(crate) fn unmoved(&self) -> QuietStep
         ensures { IsQuietStep self.now (leaves (kept_of self.now)) result }
@@ -463,7 +463,7 @@ impl Kept {
         Some(Counted { id, recount })
     }
 
-    /// The step that does so much. It takes no memory.
+    /// The step that counts a vote so, if one is to be counted, and does nothing else. It takes no memory.
     #[inline(always)]
     fn quietly(&self, quiet: QuietStep) -> Step
         ensures { IsCounting self.now quiet.counted result }

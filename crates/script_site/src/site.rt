@@ -352,7 +352,7 @@ impl Site {
             receipts,
             ..
         } = given;
-        // As after most packets.
+        // Most packets give out neither.
         if replies.is_empty() && receipts.is_empty() {
             return Ok(());
         }
