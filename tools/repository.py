@@ -1,6 +1,8 @@
-"""What several tools ask of the repository: its crates, the libraries of each, and its edits."""
+"""What several tools ask of the repository: its crates, the libraries of each, its edits, its commit, and what tools write into its pages."""
+import datetime
 import pathlib
 import re
+import subprocess
 
 TOP = pathlib.Path(__file__).resolve().parent.parent
 # Where the edits of a crate stand that the checker must refuse: those that the gate tries, and those beside it.
@@ -21,12 +23,16 @@ def libraries(top=TOP):
 
 def with_beneath(crates, named):
     """These crates and all below them, the lowest first, but for the libraries of the kit."""
-    found = []
-    for crate in crates:
-        for name in [*with_beneath(named.get(crate, []), named), crate]:
+    found = {}
+
+    def find(names):
+        for name in names:
             if name in named and name not in found:
-                found.append(name)
-    return found
+                find(named[name])
+                found[name] = None
+
+    find(crates)
+    return list(found)
 
 
 def sources(crate, parts=("src", "specs", "proofs"), top=TOP):
@@ -49,3 +55,24 @@ def lines_of(folder, pattern):
 def names(text, library):
     """Whether a source names a library: as `library::item` in code, or as `Rattle.library.specs.Item`."""
     return re.search(rf"\bRattle\.{library}\.|(?<![\w.:]){library}::", text) is not None
+
+
+def git(*words):
+    """What a command of git prints."""
+    return subprocess.run(["git", *words], cwd=TOP, capture_output=True, text=True, check=True).stdout
+
+
+def today_and_commit():
+    """The date and the commit, for what a run found; a tree with changes beside the commit is told."""
+    changed = " with changes" if git("status", "--porcelain").strip() else ""
+    return f"{datetime.date.today()}, commit {git('rev-parse', '--short=8', 'HEAD').strip()}{changed}"
+
+
+def write_between_marks(page, name, lines):
+    """Puts lines between the two marks of this name in a page."""
+    begin, end = f"<!-- {name}: begin -->\n", f"<!-- {name}: end -->\n"
+    before, _, rest = page.read_text().partition(begin)
+    _, mark, behind = rest.partition(end)
+    if not mark:
+        raise ValueError(f"{page.name} has no marks {begin.strip()} and {end.strip()}")
+    page.write_text(before + begin + "".join(f"{line}\n" for line in lines) + end + behind)
