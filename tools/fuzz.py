@@ -225,6 +225,9 @@ def run_scripts(program, given):
                 print(f"not ok script {number} of seed {given.seed}: {fault}", flush=True)
             if scripts % 100 == 0:
                 print(f"   {done:,} inputs in {time.monotonic() - begun:.0f} s", flush=True)
+        # Workers end by themselves. One that is ended by a signal may hold what another one waits for.
+        pool.close()
+        pool.join()
     print(f"   told: {', '.join(f'{count:,} {kind}' for kind, count in all_told.most_common())}")
     print(f"scripts: {done:,} inputs in {scripts:,} scripts, seed {given.seed}, {time.monotonic() - begun:.0f} s: {wrong} wrong", flush=True)
     return wrong
