@@ -7,6 +7,7 @@ chain of 18 decrees, and those of a fate and of its Told. Then what becomes of e
 
     python3 bench/chain_octets.py
 """
+import argparse
 from struct import Struct
 
 TAKEN = 946_684_800
@@ -163,22 +164,28 @@ def rows(octets, width=16):
         print("    " + " ".join(f"0x{octet:02x}," for octet in octets[start : start + width]))
 
 
-chains = {"TAKEN_CHAIN": chain(2, [taken(2)]), "EARLIER_CHAIN": chain(1, [taken(1)])}
-for name, whole in chains.items():
-    assert judged(whole) == "k"
-    print(f"{name},", len(whole), "octets")
-    rows(whole)
-decrees = tried_eight_times()
-print("TRIED_CHAIN,", len(chain(2, decrees)), "octets")
-rows(CHAIN.pack(2, 1_000_100_001, len(decrees)))
-for decree in decrees:
-    rows(decree)
-for name, decree in {"FATE": deleted(), "TELLING": told()}.items():
-    print(f"{name},", len(decree), "octets")
-    rows(decree)
-for name, whole in chains.items():
-    print(f"{name}, changed, a word a place")
-    changed = [[whole[:place] + bytes([octet]) + whole[place + 1 :] for octet in (0, 0x7F, 0x80, 0xFF)] for place in range(len(whole))]
-    words = ["".join(map(judged, four)) for four in changed]
-    for start in range(0, len(words), 24):
-        print(" ".join(words[start : start + 24]))
+def main():
+    argparse.ArgumentParser(description=__doc__, formatter_class=argparse.RawDescriptionHelpFormatter).parse_args()
+    chains = {"TAKEN_CHAIN": chain(2, [taken(2)]), "EARLIER_CHAIN": chain(1, [taken(1)])}
+    for name, whole in chains.items():
+        assert judged(whole) == "k"
+        print(f"{name},", len(whole), "octets")
+        rows(whole)
+    decrees = tried_eight_times()
+    print("TRIED_CHAIN,", len(chain(2, decrees)), "octets")
+    rows(CHAIN.pack(2, 1_000_100_001, len(decrees)))
+    for decree in decrees:
+        rows(decree)
+    for name, decree in {"FATE": deleted(), "TELLING": told()}.items():
+        print(f"{name},", len(decree), "octets")
+        rows(decree)
+    for name, whole in chains.items():
+        print(f"{name}, changed, a word a place")
+        changed = [[whole[:place] + bytes([octet]) + whole[place + 1 :] for octet in (0, 0x7F, 0x80, 0xFF)] for place in range(len(whole))]
+        words = ["".join(map(judged, four)) for four in changed]
+        for start in range(0, len(words), 24):
+            print(" ".join(words[start : start + 24]))
+
+
+if __name__ == "__main__":
+    main()

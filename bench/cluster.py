@@ -14,6 +14,7 @@ seconds a run may take: a longer one, as the tenth of its messages tells, is lef
 
 It runs an unproved program as well; what `rt try` builds looks for faults of memory as it runs, which takes a hundred times as long, and more memory.
 """
+import argparse
 import os
 import subprocess
 import sys
@@ -115,20 +116,22 @@ def counts(program, nodes):
 
 
 def main():
-    if len(sys.argv) == 3 and sys.argv[1] == "--instructions":
+    reader = argparse.ArgumentParser(description=__doc__, formatter_class=argparse.RawDescriptionHelpFormatter)
+    reader.add_argument("program", metavar="PROGRAM", type=os.path.abspath)
+    reader.add_argument("seconds", metavar="SECONDS", type=float, nargs="?", default=300)
+    reader.add_argument("--instructions", action="store_true")
+    given = reader.parse_args()
+    if given.instructions:
         print("| Nodes | Messages | A message | Times a tenth | A packet that comes | A settle of nothing | With a node down |")
         print("|---|---|---|---|---|---|---|")
         for nodes in (1, 3, 5, 9):
-            for row in counts(os.path.abspath(sys.argv[2]), nodes):
+            for row in counts(given.program, nodes):
                 print("|", " | ".join(map(str, row)), "|", flush=True)
         return
-    if len(sys.argv) not in (2, 3):
-        sys.exit(__doc__)
-    program, most = os.path.abspath(sys.argv[1]), float(sys.argv[2]) if len(sys.argv) == 3 else 300
     print("| Nodes | Messages | A message, µs | Times a tenth | A packet that comes, µs | A settle of nothing, µs | Octets of memory a packet |")
     print("|---|---|---|---|---|---|---|")
     for nodes in (1, 3, 5, 9):
-        for row in rows(program, nodes, most):
+        for row in rows(given.program, nodes, given.seconds):
             print("|", " | ".join(map(str, row)), "|", flush=True)
 
 

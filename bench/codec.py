@@ -8,6 +8,7 @@ bench/codec/smpp34.c with gcc, if Debian's libsmpp34-dev is there; else it says 
 one PDU in one run of the script, each five times, and the best counts. A run of no turns is taken off, so that the start of a process does not count. GNU time
 (Debian's `time`) measures, since the peak memory of a process that Python starts begins at Python's own.
 """
+import argparse
 import pathlib
 import re
 import shutil
@@ -62,8 +63,11 @@ def instructions(program, way, turns):
 
 
 def main():
+    reader = argparse.ArgumentParser(description=__doc__, formatter_class=argparse.RawDescriptionHelpFormatter)
+    reader.add_argument("program", metavar="PROGRAM", type=pathlib.Path, nargs="?")
+    program = reader.parse_args().program
     work = pathlib.Path(tempfile.mkdtemp(prefix="codec-"))
-    here = pathlib.Path(sys.argv[1]).resolve() if len(sys.argv) > 1 else built_here(work)
+    here = program.resolve() if program else built_here(work)
     programs = {"pdu_codec": here, "libsmpp34": built_smpp34(work)}
     for way in ("decode", "encode"):
         for name, program in programs.items():

@@ -8,9 +8,9 @@ memory is far. It takes half an hour, most of it for the 90,000. Give the built 
 
     python3 bench/instructions.py crates/centre/out/centre
 """
+import argparse
 import re
 import subprocess
-import sys
 import tempfile
 
 from one_node import START, SUBMIT, messages, query, settled
@@ -31,9 +31,9 @@ def instructions(program, lines):
 
 
 def main():
-    if len(sys.argv) != 2:
-        sys.exit(__doc__)
-    program = sys.argv[1]
+    reader = argparse.ArgumentParser(description=__doc__, formatter_class=argparse.RawDescriptionHelpFormatter)
+    reader.add_argument("program", metavar="PROGRAM")
+    program = reader.parse_args().program
     for count in (1_000, 10_000, 90_000):
         lines = messages(count)
         base = instructions(program, lines)

@@ -5,6 +5,7 @@
 
 Give built programs, as of two commits, to compare them in one run. Memory that grows with the lines would show in the last column.
 """
+import argparse
 import os
 import subprocess
 import sys
@@ -29,9 +30,9 @@ def cost(program, count):
 
 
 def main():
-    if len(sys.argv) < 2:
-        sys.exit(__doc__)
-    for program in sys.argv[1:]:
+    reader = argparse.ArgumentParser(description=__doc__, formatter_class=argparse.RawDescriptionHelpFormatter)
+    reader.add_argument("programs", metavar="PROGRAM", nargs="+")
+    for program in reader.parse_args().programs:
         for count in (10_000, 100_000, 1_000_000):
             seconds, memory = cost(program, count)
             print(f"{program}: {count} lines: {seconds:.2f} s, {seconds / count * 1e6:.1f} microseconds a line, {memory} KiB", flush=True)

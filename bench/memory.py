@@ -8,6 +8,7 @@ behind the last of them: octets a message, of all nodes together, each put down 
 function that takes a step (`Member::take`); where a build has no name for who asked, there is `???`: the list of a store's records. A list grows to twice its
 length, so what lists take is between what they hold and twice that. The program may be an unproved one. It takes seconds, and needs Debian's valgrind.
 """
+import argparse
 import collections
 import pathlib
 import re
@@ -61,11 +62,14 @@ def skip(entries, below):
 
 
 def main():
-    if len(sys.argv) != 2 or not shutil.which("valgrind"):
-        sys.exit(__doc__)
+    reader = argparse.ArgumentParser(description=__doc__, formatter_class=argparse.RawDescriptionHelpFormatter)
+    reader.add_argument("program", metavar="PROGRAM")
+    program = reader.parse_args().program
+    if not shutil.which("valgrind"):
+        sys.exit("valgrind is not here")
     for nodes in NODES:
         with tempfile.TemporaryDirectory() as work:
-            found = snapshots(sys.argv[1], scripts.lives(nodes, MESSAGES), pathlib.Path(work))
+            found = snapshots(program, scripts.lives(nodes, MESSAGES), pathlib.Path(work))
         sites = collections.Counter()
         add_sites((line for line in last_whole(found).splitlines() if ENTRY.match(line)), sites)
         print(f"{nodes} node{'s' if nodes > 1 else ''}, {MESSAGES:,} messages: {sum(sites.values()) / MESSAGES:,.0f} octets a message")
@@ -74,4 +78,5 @@ def main():
                 print(f"    {octets / MESSAGES:7.0f}  {name}")
 
 
-main()
+if __name__ == "__main__":
+    main()

@@ -10,6 +10,7 @@ the argument:
 
     python3 bench/one_node.py crates/centre/out/centre
 """
+import argparse
 import os
 import subprocess
 import sys
@@ -63,7 +64,9 @@ def run(program, lines):
 
 
 def main():
-    program = os.path.abspath(sys.argv[1])
+    reader = argparse.ArgumentParser(description=__doc__, formatter_class=argparse.RawDescriptionHelpFormatter)
+    reader.add_argument("program", metavar="PROGRAM", type=os.path.abspath)
+    program = reader.parse_args().program
     for count in (1_000, 10_000, 90_000):
         base = messages(count)
         seconds, kib = run(program, base)

@@ -9,6 +9,7 @@ the difference of two scripts, of which one has more of the same lines, for each
 a line costs: what a Prepare costs by it more than by `replay`. The program may be an unproved one. It takes some three minutes, and needs rustc (1.88 or
 later) and Debian's valgrind and time: it says which it lacks.
 """
+import argparse
 import concurrent.futures
 import os
 import pathlib
@@ -207,16 +208,17 @@ def tell_all(table):
 
 
 def main():
-    if len(sys.argv) not in (2, 3):
-        sys.exit(__doc__)
+    reader = argparse.ArgumentParser(description=__doc__, formatter_class=argparse.RawDescriptionHelpFormatter)
+    reader.add_argument("program", metavar="PROGRAM", type=pathlib.Path)
+    reader.add_argument("scripts", metavar="SCRIPTS", type=int, nargs="?", default=SCRIPTS)
+    given = reader.parse_args()
     for tool in ("rustc", "valgrind", "time"):
         found(tool)
-    count = int(sys.argv[2]) if sys.argv[2:] else SCRIPTS
     with tempfile.TemporaryDirectory(prefix="peer-") as folder, concurrent.futures.ThreadPoolExecutor(JOBS) as pool:
         work = pathlib.Path(folder)
-        programs = [pathlib.Path(sys.argv[1]).resolve(), built_peer(work)]
-        same = sum(compare(programs, scripts.by_lot(seed)) for seed in range(count))
-        print(f"{same} of {count} scripts by lot: both programs print the same; the others the peer can't do.\n", flush=True)
+        programs = [given.program.resolve(), built_peer(work)]
+        same = sum(compare(programs, scripts.by_lot(seed)) for seed in range(given.scripts))
+        print(f"{same} of {given.scripts} scripts by lot: both programs print the same; the others the peer can't do.\n", flush=True)
         tell_all(Table(programs, pool))
 
 

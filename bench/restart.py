@@ -9,9 +9,9 @@ three nodes whose settle ends behind that tick, and one of a message more, and p
     python3 bench/restart.py crates/centre/out/centre
     python3 bench/restart.py --settles crates/centre/out/centre
 """
+import argparse
 import os
 import subprocess
-import sys
 
 from instructions import MOST_DELIVERIES, instructions
 from one_node import BIND, START, SUBMIT, settled
@@ -43,19 +43,21 @@ def unsettled(program, nodes, messages, settles):
 
 
 def main():
-    if len(sys.argv) == 3 and sys.argv[1] == "--settles":
+    reader = argparse.ArgumentParser(description=__doc__, formatter_class=argparse.RawDescriptionHelpFormatter)
+    reader.add_argument("program", metavar="PROGRAM", type=os.path.abspath)
+    reader.add_argument("--settles", action="store_true")
+    given = reader.parse_args()
+    if given.settles:
         most = MOST_DELIVERIES // deliveries(3)
         for messages in (most, most + 1):
-            told = [unsettled(os.path.abspath(sys.argv[2]), 3, messages, settles) for settles in (1, 2)]
+            told = [unsettled(given.program, 3, messages, settles) for settles in (1, 2)]
             print(f"{messages:,} messages: {told[0]} of 1 settle, {told[1]} of 2 say `unsettled`")
-    elif len(sys.argv) == 2:
+    else:
         print("| Nodes | Messages | A submit_sm with its settle | A restart and its tick, a message | The settle behind it, a message | Beside all submits |")
         print("|---|---|---|---|---|---|")
         for nodes in (1, 3):
             for messages in (100, 300, 1_000):
-                print("|", " | ".join(map(str, row(os.path.abspath(sys.argv[1]), nodes, messages))), "|", flush=True)
-    else:
-        sys.exit(__doc__)
+                print("|", " | ".join(map(str, row(given.program, nodes, messages))), "|", flush=True)
 
 
 if __name__ == "__main__":

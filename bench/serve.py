@@ -18,6 +18,7 @@ to a file, without a wait for the disk. So it agrees on nothing and tries nothin
 
 Last come the fdatasync and fsync that `serve` itself makes for a message, by strace, in runs of their own (if strace is there).
 """
+import argparse
 import os
 import pathlib
 import re
@@ -210,19 +211,21 @@ def in_a_folder(do, *arguments):
 
 
 def main():
-    if len(sys.argv) not in (2, 3, 4):
-        sys.exit(__doc__)
-    program = pathlib.Path(sys.argv[1]).resolve()
-    messages = int(sys.argv[2]) if sys.argv[2:] else MESSAGES
+    reader = argparse.ArgumentParser(description=__doc__, formatter_class=argparse.RawDescriptionHelpFormatter)
+    reader.add_argument("program", metavar="PROGRAM", type=pathlib.Path)
+    reader.add_argument("messages", metavar="MESSAGES", type=int, nargs="?", default=MESSAGES)
+    reader.add_argument("centre", metavar="CENTRE", nargs="?")
+    given = reader.parse_args()
+    program, messages = given.program.resolve(), given.messages
     if not WINDOW <= messages <= MOST_MESSAGES:
-        sys.exit(f"MESSAGES is {WINDOW} to {MOST_MESSAGES}")
+        reader.error(f"MESSAGES is {WINDOW} to {MOST_MESSAGES}")
     print("| What | Stores | Messages | Submits answered a second | Delivered a second | Processor time a message | fdatasync a second | Parts closed |")
     print("|---|---|---|---|---|---|---|---|", flush=True)
     for nodes in NODES:
         for over_files in (False, True):
             in_a_folder(lambda folder: run(program, folder, nodes, over_files, messages))
-    if sys.argv[3:]:
-        run_other(sys.argv[3], messages)
+    if given.centre:
+        run_other(given.centre, messages)
     for in_file in (False, True) if BEARERBOX.exists() else ():
         in_a_folder(run_kannel, messages, in_file)
     if not shutil.which("strace"):

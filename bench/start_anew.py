@@ -11,6 +11,7 @@ while, the receipts that came before the start and those that came behind it, wh
 longest pause.
 MESSAGES are 1,000, 10,000 and 89,999 if none are named.
 """
+import argparse
 import pathlib
 import shutil
 import sys
@@ -131,12 +132,14 @@ def run(program, messages):
 
 
 def main():
-    if len(sys.argv) < 2:
-        sys.exit(__doc__)
+    reader = argparse.ArgumentParser(description=__doc__, formatter_class=argparse.RawDescriptionHelpFormatter)
+    reader.add_argument("program", metavar="PROGRAM", type=pathlib.Path)
+    reader.add_argument("messages", metavar="MESSAGES", type=int, nargs="*", default=[1_000, 10_000, 89_999])
+    given = reader.parse_args()
     print("| Messages | Submits a second | Until it starts | Until it is through | Processor time | Slowest query | Receipts | Parts closed |")
     print("|---|---|---|---|---|---|---|---|", flush=True)
-    for messages in map(int, sys.argv[2:] or (1_000, 10_000, 89_999)):
-        run(pathlib.Path(sys.argv[1]).resolve(), messages)
+    for messages in given.messages:
+        run(given.program.resolve(), messages)
 
 
 if __name__ == "__main__":

@@ -9,6 +9,7 @@ counts; to a file they take turns, eight times, since a disk is not the same fro
 start of a process nor the making of the records counts. Files are in WAL mode with synchronous=FULL. Seconds are of the clock for files, since a save waits for
 the disk, and of the processor in memory and for loads. GNU time (Debian's `time`) measures memory.
 """
+import argparse
 import pathlib
 import shutil
 import subprocess
@@ -77,8 +78,11 @@ def fresh(work, name):
 
 
 def main():
+    reader = argparse.ArgumentParser(description=__doc__, formatter_class=argparse.RawDescriptionHelpFormatter)
+    reader.add_argument("program", metavar="PROGRAM", type=pathlib.Path, nargs="?")
+    program = reader.parse_args().program
     work = pathlib.Path(tempfile.mkdtemp(prefix="store-"))
-    programs = {"sql_store": pathlib.Path(sys.argv[1]) if sys.argv[1:] else built_here(work), "C sqlite": built_c(work)}
+    programs = {"sql_store": program or built_here(work), "C sqlite": built_c(work)}
     for name, seconds in to_files(work, programs).items():
         print(f"{name}, to a file, {FEW} slots: {FILE_SAVES / seconds:.0f} saves a second of the clock", flush=True)
     for name, program in programs.items():

@@ -9,6 +9,7 @@ some runs, less a run of no steps, so that neither the start of a process nor th
 stores in memory, and by `World::step`: of these it prints the processor time of a step, by turns in one run of the script, and the instructions that Valgrind's
 callgrind counts, which do not depend on what else the machine does. Files are in a folder of /tmp. GNU time (Debian's `time`) measures.
 """
+import argparse
 import pathlib
 import shutil
 import subprocess
@@ -85,8 +86,11 @@ def instructions(program, way, nodes):
 
 
 def main():
+    reader = argparse.ArgumentParser(description=__doc__, formatter_class=argparse.RawDescriptionHelpFormatter)
+    reader.add_argument("program", metavar="PROGRAM", type=pathlib.Path, nargs="?")
+    given = reader.parse_args().program
     work = pathlib.Path(tempfile.mkdtemp(prefix="threads-"))
-    program = pathlib.Path(sys.argv[1]) if sys.argv[1:] else built_here(work)
+    program = given or built_here(work)
     print("| Stores | Nodes | " + " | ".join(f"{threads} thread{'s' * (threads > 1)}" for threads in THREADS) + " |")
     for way in ("lists", "files"):
         for nodes in NODES:

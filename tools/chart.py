@@ -12,6 +12,7 @@ majority of the nodes may have come back, or at the tick that ends its 30 second
 ended its message, or when a session takes what waited. What could belong to several lines belongs to the first of them from which all that follows fits.
 If there is none, it says which line of the output goes with none of the script, and draws nothing. Nothing but Python's library is needed.
 """
+import argparse
 import html
 import itertools
 import math
@@ -161,10 +162,12 @@ def svg(chart):
 
 
 def main():
-    if len(sys.argv) != 3:
-        sys.exit(__doc__)
+    reader = argparse.ArgumentParser(description=__doc__, formatter_class=argparse.RawDescriptionHelpFormatter)
+    reader.add_argument("script", metavar="SCRIPT", type=pathlib.Path)
+    reader.add_argument("output", metavar="OUTPUT", type=pathlib.Path)
+    given = reader.parse_args()
     try:
-        print(svg(charted(*(pathlib.Path(name).read_bytes().decode("latin-1") for name in sys.argv[1:]))), end="")
+        print(svg(charted(*(path.read_bytes().decode("latin-1") for path in (given.script, given.output)))), end="")
     except OSError as fault:
         sys.exit(f"{fault.filename}: {fault.strerror}")
     except Misfit as fault:

@@ -9,6 +9,7 @@ are not 0 and empty, NAME.status and NAME.stderr; and the fenced blocks of `docs
 line is bad, one marked `stderr`. With --try what is written on standard error is not compared, since `rt try` does not hand it on; the exit status is.
 The gate runs them, too, as rows of `script_tests` (`tools/rows.py`).
 """
+import argparse
 import pathlib
 import re
 import subprocess
@@ -63,14 +64,13 @@ def run_unproved(examples):
 
 
 def main():
+    reader = argparse.ArgumentParser(description=__doc__, formatter_class=argparse.RawDescriptionHelpFormatter)
+    way = reader.add_mutually_exclusive_group(required=True)
+    way.add_argument("--try", dest="is_unproved", action="store_true")
+    way.add_argument("program", metavar="PROGRAM", nargs="?")
+    given = reader.parse_args()
     examples = [*first_script(), *in_folder(), *in_page()]
-    match sys.argv[1:]:
-        case ["--try"]:
-            wrong = list(run_unproved(examples))
-        case [program]:
-            wrong = list(run(program, examples))
-        case _:
-            sys.exit(__doc__)
+    wrong = list(run_unproved(examples) if given.is_unproved else run(given.program, examples))
     print(*wrong, f"{len(examples)} examples, {len(wrong)} wrong", sep="\n")
     sys.exit(1 if wrong else 0)
 

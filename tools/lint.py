@@ -5,6 +5,7 @@
 
 The exit status is 1 if a line is bad, or a file can't be read. docs/SCRIPTS.md has the lines of a script.
 """
+import argparse
 import pathlib
 import sys
 
@@ -25,10 +26,10 @@ def faults(script):
 
 
 def main():
-    if len(sys.argv) < 2 or sys.argv[1] == "--help":
-        sys.exit(__doc__)
+    reader = argparse.ArgumentParser(description=__doc__, formatter_class=argparse.RawDescriptionHelpFormatter)
+    reader.add_argument("scripts", metavar="SCRIPT", nargs="+")
     bad = []
-    for name in sys.argv[1:]:
+    for name in reader.parse_args().scripts:
         try:
             script = pathlib.Path(name).read_bytes().decode("latin-1")
         except OSError as fault:

@@ -16,6 +16,7 @@ stands where it is given. Some are numbers, as long as the standard says; their 
 `sequence=`; `status=`, a number or a name as ESME_RX_T_APPN; `length=`, a command_length that is to be wrong; and `body=`, the digits of a body that is to be
 wrong. A command may be a number, as 0x00000021. What is longer than it may be is written, and told on standard error.
 """
+import argparse
 import os
 import re
 import shlex
@@ -243,20 +244,33 @@ def filtered(lines, change):
             sys.exit(f"line {place}: {fault}")
 
 
+def tell_all(digits):
+    """Prints the words that write these octets, a line for each PDU."""
+    if len(digits) % 2:
+        raise Wrong(f"{len(digits)} digits are an odd number")
+    print(*(quoted(told(octets)) for octets in frames(bytes.fromhex(digits))), sep="\n")
+
+
+def write(words):
+    """Prints the digits of a PDU, and tells what of it is too long."""
+    octets = written(words)
+    print(*too_long(octets), sep="\n", end="\n" if too_long(octets) else "", file=sys.stderr)
+    print(octets.hex())
+
+
 def main():
-    match sys.argv[1:]:
-        case [] | ["--help"]:
-            sys.exit(__doc__)
-        case ["--read" | "--write" as way]:
-            filtered(sys.stdin, line_read if way == "--read" else line_written)
-        case [digits] if re.fullmatch("[0-9a-fA-F]+", digits):
-            if len(digits) % 2:
-                raise Wrong(f"{len(digits)} digits are an odd number")
-            print(*(quoted(told(octets)) for octets in frames(bytes.fromhex(digits))), sep="\n")
-        case words:
-            octets = written(words)
-            print(*too_long(octets), sep="\n", end="\n" if too_long(octets) else "", file=sys.stderr)
-            print(octets.hex())
+    reader = argparse.ArgumentParser(description=__doc__, formatter_class=argparse.RawDescriptionHelpFormatter)
+    way = reader.add_mutually_exclusive_group(required=True)
+    way.add_argument("words", metavar="WORD", nargs="*", default=[])
+    way.add_argument("--write", dest="change", action="store_const", const=line_written)
+    way.add_argument("--read", dest="change", action="store_const", const=line_read)
+    given = reader.parse_args()
+    if given.change:
+        filtered(sys.stdin, given.change)
+    elif re.fullmatch("[0-9a-fA-F]+", " ".join(given.words)):
+        tell_all(given.words[0])
+    else:
+        write(given.words)
 
 
 if __name__ == "__main__":

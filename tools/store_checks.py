@@ -8,6 +8,7 @@ of damage, with other tables, with one table alone, and what is no database. The
 refuses has the same octets after it. A directory is refused, too, and a file that the user may not read, or may read and not write: if the user is root,
 another one, 65534, opens that. The exit status is 1 if something differs.
 """
+import argparse
 import hashlib
 import os
 import pathlib
@@ -186,9 +187,9 @@ def without_rights(program, work):
 
 
 def main():
-    if len(sys.argv) != 2:
-        sys.exit(__doc__)
-    program = sys.argv[1]
+    reader = argparse.ArgumentParser(description=__doc__, formatter_class=argparse.RawDescriptionHelpFormatter)
+    reader.add_argument("program", metavar="PROGRAM")
+    program = reader.parse_args().program
     with tempfile.TemporaryDirectory(prefix="stores-") as folder:
         work = pathlib.Path(folder)
         wrong = [line for name, make, wanted in CASES for line in differs(program, work, name, make, wanted)]

@@ -3,6 +3,7 @@
 
     python3 tools/time_rows.py > crates/part_tests/src/time_rows.rt
 """
+import argparse
 import calendar
 from datetime import datetime, timedelta, timezone
 
@@ -64,6 +65,7 @@ def rows(name, lines):
 
 
 def main():
+    argparse.ArgumentParser(description=__doc__, formatter_class=argparse.RawDescriptionHelpFormatter).parse_args()
     print("//! Times by Python's `datetime` and `calendar`: written by `tools/time_rows.py`.")
     print("\n// A line each: an absolute time, and its seconds since 1970.")
     rows("ABSOLUTE", absolute())
