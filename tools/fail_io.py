@@ -10,8 +10,10 @@ For each script that ends well (all rows of crates/centre/data/rows, or these) i
 - likewise with each write failed: status 1 and one line, and output that is the beginning of what is expected;
 - with reads and writes of 1, 2, 3 and 7 octets at most, and with every second read and write interrupted: all of the output, and status 0.
 
-A library that is written and built here with gcc stands in front of the C library's `read` and `write`. Prints a line for each script.
+A library that is written and built here with gcc stands in front of the C library's `read` and `write`. Prints a line for each script;
+the exit status is 1 if something did not hold.
 """
+import argparse
 import os
 import pathlib
 import subprocess
@@ -60,6 +62,10 @@ STAND_IN(write, const void *, descriptor == 1, "FAILED_WRITE")
 """
 
 
+class Wrong(Exception):
+    """A run is not as it has to be."""
+
+
 def built_failer(work):
     source, failer = work / "failer.c", work / "failer.so"
     source.write_text(FAILER)
@@ -100,7 +106,7 @@ def failed_reads(program, row, failer):
         fault = fault_in(ended, expected)
         wanted = run(program, whole_lines(script, (number - 1) * PACE), failer).stdout
         if fault or ended.stdout != wanted:
-            sys.exit(f"{row.stem}: read {number} failed: {fault or 'not the text of the lines that came'}")
+            raise Wrong(f"read {number} failed: {fault or 'not the text of the lines that came'}")
         number += 1
 
 
@@ -114,7 +120,7 @@ def failed_writes(program, row, failer):
             return number - 1
         fault = fault_in(ended, expected)
         if fault:
-            sys.exit(f"{row.stem}: write {number} failed: {fault}")
+            raise Wrong(f"write {number} failed: {fault}")
         number += 1
 
 
@@ -125,20 +131,30 @@ def check_paces(program, row, failer):
         for interrupts in (0, 1):
             ended = run(program, script, failer, PACE=pace, INTERRUPTS=interrupts)
             if ended.returncode or ended.stdout != expected:
-                sys.exit(f"{row.stem}: by {pace} octets, interrupted {interrupts}: status {ended.returncode}")
+                raise Wrong(f"by {pace} octets, interrupted {interrupts}: status {ended.returncode}")
 
 
 def main():
-    if len(sys.argv) < 2:
-        sys.exit(__doc__)
-    program = pathlib.Path(sys.argv[1]).resolve()
-    named = [ROWS / f"{name}.script" for name in sys.argv[2:]]
-    rows = named or [row for row in sorted(ROWS.glob("*.script")) if not row.with_suffix(".status").exists()]
+    reader = argparse.ArgumentParser(description=__doc__, formatter_class=argparse.RawDescriptionHelpFormatter)
+    reader.add_argument("program", metavar="PROGRAM", type=pathlib.Path)
+    reader.add_argument("rows", metavar="ROW", nargs="*")
+    given = reader.parse_args()
+    program, count, wrong = given.program.resolve(), 0, 0
+    rows = [ROWS / f"{name}.script" for name in given.rows] or [row for row in sorted(ROWS.glob("*.script")) if not row.with_suffix(".status").exists()]
     with tempfile.TemporaryDirectory(prefix="fail-") as work:
         failer = built_failer(pathlib.Path(work))
         for row in rows:
-            check_paces(program, row, failer)
-            print(f"{row.stem}: {failed_reads(program, row, failer)} reads and {failed_writes(program, row, failer)} writes failed", flush=True)
+            try:
+                check_paces(program, row, failer)
+                reads, writes = failed_reads(program, row, failer), failed_writes(program, row, failer)
+            except Wrong as fault:
+                wrong += 1
+                print(f"not ok {row.stem}: {fault}", flush=True)
+            else:
+                count += reads + writes
+                print(f"{row.stem}: {reads} reads and {writes} writes failed", flush=True)
+    print(f"{count:,} reads and writes failed of {len(rows)} scripts, {wrong} wrong")
+    sys.exit(1 if wrong else 0)
 
 
 if __name__ == "__main__":

@@ -371,7 +371,7 @@ def play_stores(given, left, what, kind):
     for name, count in sorted(counts.items()):
         print(f"{name}: {count:,}")
     print(f"messages at the end: {', '.join(f'{count:,} {state}' for state, count in sorted(states.items()))}")
-    print(f"{all_of_them} {what} of {number - given.first} stores, seed {given.seed}, {time.monotonic() - begun:.0f} s: {len(faults)} faults")
+    print(f"{all_of_them} {what} of {number - given.first} stores, seed {given.seed}, {time.monotonic() - begun:.0f} s: {len(faults)} wrong")
     sys.exit(1 if faults else 0)
 
 

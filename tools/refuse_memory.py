@@ -2,7 +2,7 @@
 """Refuses memory at each request for some in turn: to the built program over the worked scripts, or to the tests of a crate.
 
     python3 tools/refuse_memory.py PROGRAM [ROW ..]
-    python3 tools/refuse_memory.py --tests TESTS ..
+    python3 tools/refuse_memory.py --tests TESTS ..      # also behind PROGRAM
 
 For each worked script (all rows of crates/centre/data/rows, or these) it runs `PROGRAM script` again and again, and refuses the first, the
 second, the third request for memory, and so on, until a run asks for less. Each of these runs must end with status 1 and one line on standard
@@ -15,6 +15,7 @@ has to pass in each run: it looks at what was answered, and makes the call again
 A library that is written and built here with gcc counts the calls of malloc and its kin; the dynamic linker puts it in front of the C
 library's. Prints a line for each script or test: how many requests were refused. Runs go on side by side, one a processor.
 """
+import argparse
 import concurrent.futures
 import os
 import pathlib
@@ -151,29 +152,35 @@ def tests_of(tests):
     return [Test(tests, line.removesuffix(": test")) for line in listed.splitlines() if line.endswith(": test")]
 
 
-def all_tried(arguments):
-    if arguments[0] == "--tests":
-        programs = [pathlib.Path(name).resolve() for name in arguments[1:]]
-        return [test for program in programs for test in tests_of(program)]
-    program = pathlib.Path(arguments[0]).resolve()
-    named = [ROWS / f"{name}.script" for name in arguments[1:]]
-    return [Script(program, row) for row in named or sorted(ROWS.glob("*.script"))]
+def all_tried(given):
+    scripts = [ROWS / f"{name}.script" for name in given.rows] or sorted(ROWS.glob("*.script"))
+    yield from (Script(given.program.resolve(), row) for row in scripts if given.program)
+    yield from (test for tests in given.tests for test in tests_of(tests.resolve()))
+
+
+def arguments_of():
+    reader = argparse.ArgumentParser(description=__doc__, formatter_class=argparse.RawDescriptionHelpFormatter)
+    reader.add_argument("program", metavar="PROGRAM", type=pathlib.Path, nargs="?")
+    reader.add_argument("rows", metavar="ROW", nargs="*")
+    reader.add_argument("--tests", metavar="TESTS", type=pathlib.Path, nargs="+", default=[])
+    given = reader.parse_args()
+    if not (given.program or given.tests):
+        reader.error("name a program, or --tests")
+    return given
 
 
 def main():
-    if len(sys.argv) < 2:
-        sys.exit(__doc__)
-    count, total, wrong = 0, 0, 0
+    given, total, wrong = arguments_of(), 0, 0
     with tempfile.TemporaryDirectory(prefix="refuse-") as work, concurrent.futures.ThreadPoolExecutor(os.cpu_count()) as pool:
-        refuser, all_of = built_refuser(pathlib.Path(work)), all_tried(sys.argv[1:])
+        refuser, all_of = built_refuser(pathlib.Path(work)), list(all_tried(given))
         for tried, (number, fault) in zip(all_of, pool.map(lambda tried: refusals(tried, refuser), all_of)):
-            count, total = count + 1, total + number
+            total += number
             if fault:
                 wrong += 1
                 print(f"not ok {tried.name}: request {number} for memory refused: {fault}", flush=True)
             else:
                 print(f"{tried.name}: {number} requests refused", flush=True)
-    print(f"{count} tried, {total} requests refused, {wrong} wrong")
+    print(f"{total:,} requests refused of {len(all_of)} scripts and tests, {wrong} wrong")
     sys.exit(1 if wrong else 0)
 
 
