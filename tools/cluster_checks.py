@@ -1,10 +1,10 @@
 #!/usr/bin/env python3
 """Runs the program over scripts of several nodes, and looks whether what it prints keeps the promises that `tools/judge.py` lists.
 
-    python3 tools/cluster_checks.py --try [FAMILY ..]        # builds the program unproved, by `rt try` in crates/centre
-    python3 tools/cluster_checks.py PROGRAM [FAMILY ..]      # runs a built program, as crates/centre/out/centre
-    python3 tools/cluster_checks.py --self-test              # judges the transcripts of tools/transcripts, of which most break one promise
-    python3 tools/cluster_checks.py --write FOLDER           # writes the scripts there, for a look
+    python3 tools/cluster_checks.py PROGRAM              # runs a built program, as crates/centre/out/centre
+    python3 tools/cluster_checks.py --try                # builds the program unproved, by `rt try` in crates/centre
+    python3 tools/cluster_checks.py --write FOLDER       # writes the scripts there, for a look
+    python3 tools/cluster_checks.py .. --only FAMILY ..  # some families alone
 
 The families:
 
@@ -20,6 +20,7 @@ answered is known from the script. Behind each line of a script stands an enquir
 stops, so that each line of the output has its line of the script. A family prints one line: its scripts, and how many ended how. At a promise that is
 not kept, and at another answer, the script is printed, and the exit status is 1. This is beside the gate. What `rt try` builds takes about 20 minutes for all.
 """
+import argparse
 import collections
 import pathlib
 import random
@@ -445,42 +446,47 @@ def breach_of(lines):
         return str(breach)
 
 
-def self_test():
-    """Each transcript of the folder is judged as its first line says, `breach: WORDS` or `breach: none`."""
-    names = sorted((ROOT / "tools/transcripts").glob("*.txt"))
+def check():
+    """How many transcripts the folder has, and which are not judged as their first line says, `breach: WORDS` or `breach: none`."""
+    names, wrong = sorted((ROOT / "tools/transcripts").glob("*.txt")), []
     for name in names:
         first, *lines = name.read_text().splitlines()
         told = breach_of(lines)
         if first.removeprefix("breach: ") not in told:
-            sys.exit(f"{name.name}: {told}")
-    print(f"{len(names)} transcripts, each judged as it says")
+            wrong.append(f"{name.name}: {told}")
+    return f"{len(names)} transcripts", wrong
 
 
 def run(told_by, names):
-    is_wrong = False
-    for name in names or FAMILIES:
+    total, all_wrong = 0, 0
+    for name in names:
         scripts, ends = list(FAMILIES[name]()), collections.Counter()
         breaches = list(wrong(scripts, told_by(scripts), ends))
         print(*breaches[:3], f"{name}: {len(scripts)} scripts, {len(breaches)} wrong; "
               + ", ".join(f"{count} {end}" for end, count in sorted(ends.items())), sep="\n", flush=True)
-        is_wrong |= bool(breaches)
-    sys.exit(1 if is_wrong else 0)
+        total, all_wrong = total + len(scripts), all_wrong + len(breaches)
+    print(f"{total:,} scripts of several nodes, {all_wrong} wrong")
+    sys.exit(1 if all_wrong else 0)
+
+
+def write(folder, names):
+    for name in names:
+        for script in FAMILIES[name]():
+            pathlib.Path(folder, f"{name}_{script.name}.script").write_text(script.text())
 
 
 def main():
-    match sys.argv[1:]:
-        case ["--self-test"]:
-            self_test()
-        case ["--write", folder]:
-            for name, family in FAMILIES.items():
-                for script in family():
-                    pathlib.Path(folder, f"{name}_{script.name}.script").write_text(script.text())
-        case ["--try", *names]:
-            run(outputs_unproved, names)
-        case [program, *names] if not program.startswith("--"):
-            run(lambda scripts: outputs(program, scripts), names)
-        case _:
-            sys.exit(__doc__)
+    reader = argparse.ArgumentParser(description=__doc__, formatter_class=argparse.RawDescriptionHelpFormatter)
+    way = reader.add_mutually_exclusive_group(required=True)
+    way.add_argument("program", metavar="PROGRAM", nargs="?")
+    way.add_argument("--try", dest="is_unproved", action="store_true")
+    way.add_argument("--write", metavar="FOLDER")
+    reader.add_argument("--only", metavar="FAMILY", nargs="+", choices=FAMILIES, default=list(FAMILIES))
+    given = reader.parse_args()
+    if given.write:
+        write(given.write, given.only)
+    else:
+        run(outputs_unproved if given.is_unproved else lambda scripts: outputs(given.program, scripts), given.only)
 
 
 if __name__ == "__main__":

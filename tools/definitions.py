@@ -1,19 +1,19 @@
 #!/usr/bin/env python3
 """Counts what a reader has to believe for a promise: the definitions that its clauses name, and all that these name in turn, in all crates.
 
-    tools/definitions.py [--list] [CRATE::FUNCTION[.CLAUSE] ..]
-    tools/definitions.py --check | --write
+    python3 tools/definitions.py [--list] CRATE::FUNCTION[.CLAUSE] ..
+    python3 tools/definitions.py --write
 
 A function is a public one, as `world::World::step`; without a clause all of its clauses count. A definition is one of specs/, or a type of the code that
 clauses see: its variants or fields, and if it has a model, what this makes of the fields that it names. A line counts if it holds text that is neither a
 comment nor an import. What std and the kit define does not count, nor the invariant of a type, which is proved.
 
 In docs/HEADLINE.md and docs/PROMISES.md the names of laws and clauses are followed by their crate, if it is not mc_laws or mc_parts, and by the figures of
-all of them together: "`lines_join` (`script_text`) on 9 definitions, 20 lines". With --check it looks whether these are true, whether each law of a table has
-some, and whether definitions are read whole. With --write it mends the figures.
+all of them together: "`lines_join` (`script_text`) on 9 definitions, 20 lines". With --write it mends the figures. tools/check looks whether they are true,
+whether each law of a table has some, and whether definitions are read whole.
 """
+import argparse
 import re
-import sys
 
 from repository import TOP, libraries, sources
 
@@ -232,16 +232,26 @@ def tell(definitions, promise, listed):
     print(*(f"  {file}: {', '.join(by_file[file])}" for file in sorted(by_file)), sep="\n", end="\n" if by_file else "")
 
 
-def main():
+def check():
+    """How many figures the pages have, and which of them are wrong."""
     definitions = Definitions()
-    for page in PAGES if "--write" in sys.argv else []:
+    wrong = [*misread(definitions), *(line for page in PAGES for line in wrong_in(definitions, page))]
+    return f"{sum(len(FIGURE.findall(page.read_text())) for page in PAGES)} figures", wrong
+
+
+def main():
+    reader = argparse.ArgumentParser(description=__doc__, formatter_class=argparse.RawDescriptionHelpFormatter)
+    reader.add_argument("promises", metavar="CRATE::FUNCTION[.CLAUSE]", nargs="*")
+    reader.add_argument("--list", action="store_true", help="name the definitions, by their files")
+    reader.add_argument("--write", action="store_true", help="mend the figures of the pages")
+    given = reader.parse_args()
+    if not (given.promises or given.write):
+        reader.error("name a function, or give --write")
+    definitions = Definitions()
+    for page in PAGES if given.write else []:
         page.write_text(with_figures(definitions, page.read_text()))
-    if "--check" in sys.argv:
-        wrong = [*misread(definitions), *(line for page in PAGES for line in wrong_in(definitions, page))]
-        print(*wrong, f"{len(wrong)} wrong", sep="\n")
-        sys.exit(1 if wrong else 0)
-    for promise in (word for word in sys.argv[1:] if not word.startswith("--")):
-        tell(definitions, promise, "--list" in sys.argv)
+    for promise in given.promises:
+        tell(definitions, promise, given.list)
 
 
 if __name__ == "__main__":

@@ -1,15 +1,13 @@
 #!/usr/bin/env python3
-"""Looks whether each crate lists in crates.txt just the libraries that its sources name, and prints by how many ways `rt` goes down from each.
+"""Prints by how many ways `rt` goes down from each crate of crates.txt.
 
-    python3 tools/libraries.py [--ways]
+    python3 tools/libraries.py --ways
 
-A library that is listed and named nowhere is not in vain alone: before each check `rt` sums up the files of all libraries along each way through that
-file, so each needless entry multiplies what every crate above waits for. The exit status is 1 if an entry is
-needless.
+Before each check `rt` sums up the files of all libraries along each way through crates.txt, so each needless entry multiplies what every crate above waits for.
+tools/check looks whether each crate lists just the libraries that its sources name.
 """
 import argparse
 import functools
-import sys
 
 from repository import libraries, names, sources, with_beneath
 
@@ -30,18 +28,21 @@ def ways_down(named):
     return {crate: ways(crate) for crate in named}
 
 
+def check():
+    """How many entries there are, and which are needless."""
+    named = libraries()
+    wrong = [f"{crate} lists {library}, and names it nowhere" for crate in named for library in needless(crate, named)]
+    return f"{sum(map(len, named.values()))} entries", wrong
+
+
 def main():
     parser = argparse.ArgumentParser(description=__doc__, formatter_class=argparse.RawDescriptionHelpFormatter)
-    parser.add_argument("--ways", action="store_true", help="print the ways of each crate, and what a check of it sums up")
-    arguments = parser.parse_args()
+    parser.add_argument("--ways", action="store_true", required=True, help="print the ways of each crate, and what a check of it sums up")
+    parser.parse_args()
     named = libraries()
-    if arguments.ways:
-        ways = ways_down(named)
-        for crate in named:
-            print(f"{ways[crate]:7} ways, {sum(ways[name] for name in with_beneath([crate], named)):7} with those of all below  {crate}")
-    wrong = [f"{crate} lists {library}, and names it nowhere" for crate in named for library in needless(crate, named)]
-    print(*wrong, f"{sum(map(len, named.values()))} entries, {len(wrong)} needless", sep="\n")
-    sys.exit(1 if wrong else 0)
+    ways = ways_down(named)
+    for crate in named:
+        print(f"{ways[crate]:7} ways, {sum(ways[name] for name in with_beneath([crate], named)):7} with those of all below  {crate}")
 
 
 if __name__ == "__main__":

@@ -1,18 +1,18 @@
 #!/usr/bin/env python3
-"""Looks whether the examples of use in the READMEs of the crates are code of the repository, and tries those that are whole programs.
+"""Tries the examples of use in the READMEs of the crates that are whole programs.
 
-    python3 tools/readme_examples.py                      # a second
     python3 tools/readme_examples.py --try [CRATE ..]     # builds and runs the whole programs of these crates, or of all, unproved: half a minute each
     python3 tools/readme_examples.py --prove [CRATE ..]   # the same, proved: what is not proved below them is proved first
 
 A README of a crate with code has a section 'An example'. A block there that is a part of a file comes after a sentence that names the file under `crates`. Each
-line of the block has to stand in the file that was named last, in this order; so it is code that the gate proves.
+line of the block has to stand in the file that was named last, in this order, as tools/check looks; so it is code that the gate proves.
 
 A block with a `fn main` is a program that calls the crate. Each README has one, but for those of CALLED_BY_NOBODY and of crates of tests. The sentence before
 it has its line for `crates.txt`, as `caller: pdu_codec`, and the one behind it says what it prints. A block of antt behind that is the file of its proof that
 the sentence before names, as `crates/caller/proofs/main/Invariants.antt`. To try a program, the crates are copied to a folder of their own, with what is built
 of their libraries; there the program is the crate `caller`. This is beside the gate.
 """
+import argparse
 import pathlib
 import re
 import shutil
@@ -132,16 +132,19 @@ def try_callers(command, names):
     return wrong
 
 
+def check():
+    """How many examples there are, and what is wrong with them."""
+    return f"{len(list(blocks()))} examples, of which {len(list(callers()))} are programs", list(faults())
+
+
 def main():
-    match sys.argv[1:]:
-        case []:
-            wrong = list(faults())
-            print(*wrong, f"{len(list(blocks()))} examples, of which {len(list(callers()))} are programs, {len(wrong)} wrong", sep="\n")
-            sys.exit(1 if wrong else 0)
-        case ["--try" | "--prove" as way, *names]:
-            sys.exit(1 if try_callers("try" if way == "--try" else "run", names) else 0)
-        case _:
-            sys.exit(__doc__)
+    reader = argparse.ArgumentParser(description=__doc__, formatter_class=argparse.RawDescriptionHelpFormatter)
+    way = reader.add_mutually_exclusive_group(required=True)
+    way.add_argument("--try", dest="command", action="store_const", const="try")
+    way.add_argument("--prove", dest="command", action="store_const", const="run")
+    reader.add_argument("crates", metavar="CRATE", nargs="*")
+    given = reader.parse_args()
+    sys.exit(1 if try_callers(given.command, given.crates) else 0)
 
 
 if __name__ == "__main__":

@@ -3,10 +3,11 @@
 DELIVERED, whether of another final state, and the command_status of a submit_sm that has it.
 
     python3 tools/registered_delivery.py --write     # writes the tests' crates/delivery_tests/src/asked.rt
-    python3 tools/registered_delivery.py --check     # says if that file is not what the section says
+
+tools/check looks whether the file is what the section says.
 """
+import argparse
 import pathlib
-import sys
 
 ROOT = pathlib.Path(__file__).resolve().parent.parent
 FILE = ROOT / "crates/delivery_tests/src/asked.rt"
@@ -36,15 +37,17 @@ def table():
     return HEAD + "".join(lines) + '";\n'
 
 
+def check():
+    """How many octets the table has, and whether the tests have it."""
+    is_same = FILE.read_text() == table()
+    return "256 octets", [] if is_same else [f"{FILE.relative_to(ROOT)} is not what the section says: python3 tools/registered_delivery.py --write"]
+
+
 def main():
-    match sys.argv[1:]:
-        case ["--write"]:
-            FILE.write_text(table())
-        case ["--check"]:
-            if FILE.read_text() != table():
-                sys.exit(f"{FILE.relative_to(ROOT)} is not what the section says: python3 tools/registered_delivery.py --write")
-        case _:
-            sys.exit(__doc__)
+    reader = argparse.ArgumentParser(description=__doc__, formatter_class=argparse.RawDescriptionHelpFormatter)
+    reader.add_argument("--write", action="store_true", required=True)
+    reader.parse_args()
+    FILE.write_text(table())
 
 
 if __name__ == "__main__":

@@ -3,11 +3,11 @@
 and NAME.stderr; and after them the examples of `tools/examples.py`: the first script, the folder `examples`, and `docs/SCRIPTS.md`.
 
     python3 tools/rows.py --write            # writes the tests' crates/script_tests/src/rows.rt
-    python3 tools/rows.py --check            # says if that file is not what the folder says
     python3 tools/rows.py --run PROGRAM      # runs a built program, as crates/centre/out/centre, on each script, also without its last line feed
 
-A script of more than 8,000 octets is left out of the file, and is run by `--run` alone.
+A script of more than 8,000 octets is left out of the file, and is run by `--run` alone. tools/check looks whether the file is what the folder says.
 """
+import argparse
 import pathlib
 import subprocess
 import sys
@@ -61,17 +61,22 @@ def run(program):
     return wrong == 0
 
 
+def check():
+    """How many scripts there are, and whether the tests have them."""
+    is_same = FILE.read_text() == rust()
+    return f"{len(list(rows()))} scripts", [] if is_same else [f"{FILE.relative_to(ROOT)} is not what the scripts and examples say: python3 tools/rows.py --write"]
+
+
 def main():
-    match sys.argv[1:]:
-        case ["--write"]:
-            FILE.write_text(rust())
-        case ["--check"]:
-            if FILE.read_text() != rust():
-                sys.exit(f"{FILE.relative_to(ROOT)} is not what the scripts and examples say: python3 tools/rows.py --write")
-        case ["--run", program]:
-            sys.exit(0 if run(program) else 1)
-        case _:
-            sys.exit(__doc__)
+    reader = argparse.ArgumentParser(description=__doc__, formatter_class=argparse.RawDescriptionHelpFormatter)
+    way = reader.add_mutually_exclusive_group(required=True)
+    way.add_argument("--write", action="store_true")
+    way.add_argument("--run", metavar="PROGRAM")
+    given = reader.parse_args()
+    if given.write:
+        FILE.write_text(rust())
+    else:
+        sys.exit(0 if run(given.run) else 1)
 
 
 if __name__ == "__main__":

@@ -1,14 +1,9 @@
-#!/usr/bin/env python3
-"""Looks whether the pages name each crate, and none that is not there.
-
-    python3 tools/crates.py
+"""Whether the pages name each crate, and none that is not there.
 
 Crates are listed in crates.txt. Each has a README; each but those of tests stands in the picture of README.md and in the list of docs/ARCHITECTURE.md, and, if
-it has definitions, in docs/DEFINITIONS.md. No page links to another. (The table of docs/GATE.md is written by tools/measure_gate.py.) The exit status is 1 if
-something is missing.
+it has definitions, in docs/DEFINITIONS.md. No page links to another. (The table of docs/GATE.md is written by tools/measure_gate.py.)
 """
 import re
-import sys
 
 from repository import TOP, libraries
 
@@ -49,12 +44,7 @@ def missing(named):
         yield from (f"{page.relative_to(TOP)} links to {crate}, which is not there" for crate in LINK.findall(page.read_text()) if crate not in named)
 
 
-def main():
+def check():
+    """How many crates there are, and what the pages lack of them."""
     named = libraries()
-    wrong = list(missing(named))
-    print(*wrong, f"{len(named)} crates, {len(wrong)} wrong", sep="\n")
-    sys.exit(1 if wrong else 0)
-
-
-if __name__ == "__main__":
-    main()
+    return f"{len(named)} crates", list(missing(named))

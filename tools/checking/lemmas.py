@@ -1,40 +1,34 @@
-#!/usr/bin/env python3
-"""Lists lemmas that nothing names, and lemmas that say what another says, in another file or in the kit's std.
+"""Lemmas that nothing names, and lemmas that say what another says, in another file or in the kit's std.
 
-    python3 tools/lemmas.py
-
-It reads text: a row is a place to look at. Answers and invariants have the names of their goals, and so are left out. Two lemmas say the same if they
-differ in the names of what they are bound to and in what they leave implicit alone; of those inside others only such count as say it of std's words. The
-exit status is 1 if there is a row. This is beside the gate.
+It reads text. Answers and invariants have the names of their goals, and so are left out. Two lemmas say the same if they differ in the names of what they are
+bound to and in what they leave implicit alone; of those inside others only such count as say it of std's words.
 """
 import collections
+import functools
 import pathlib
 import re
-import sys
 
-ROOT = pathlib.Path(__file__).resolve().parent.parent / "crates"
+from repository import TOP, libraries, sources
+
+ROOT = TOP / "crates"
 STD = pathlib.Path("/opt/rattle/rattle/std")
 HEAD = re.compile(r"( *)(pub )?(?:abbrev )?(?:unfoldable )?(pub )?([^\s:(){}=]+) : (.*)")
 WORD = re.compile(r"[^\s(){}.,;]+")
 TOKEN = re.compile(r"[^\s(){}.,;]+|[(){}.,;]")
 BINDER = re.compile(r"[({]\s*([^(){}:→]+?)\s*:\s")
 SHORTEST = 30
+# Files whose names are those of goals.
+GOALS = ("Answers", "Invariants", "Measures")
 
 
 def indent(line):
     return len(line) - len(line.lstrip())
 
 
+@functools.cache
 def text_of(path):
     text = path.read_text()
     return text.replace("::", " ") if path.suffix == ".rt" else re.sub(r"--.*", "", text)
-
-
-def sources(*suffixes):
-    for suffix in suffixes:
-        for path in sorted(ROOT.glob(f"*/*/**/*{suffix}")):
-            if path.relative_to(ROOT).parts[1] in ("src", "specs", "proofs"):
-                yield path
 
 
 class Lemma:
@@ -108,10 +102,12 @@ def meaning(says, homes):
 
 def unnamed(lemmas):
     """Lemmas whose name stands nowhere but in their own lines."""
-    counts = {path: collections.Counter(WORD.findall(text_of(path))) for path in sources(".antt", ".rt")}
-    everywhere = sum(counts.values(), collections.Counter())
+    names, counts, everywhere = {lemma.name for lemma in lemmas}, {}, collections.Counter()
+    for path in (path for crate in libraries() for path in sources(crate)):
+        counts[path] = collections.Counter(word for word in WORD.findall(text_of(path)) if word in names)
+        everywhere.update(counts[path])
     for lemma in lemmas:
-        own = collections.Counter(WORD.findall("\n".join(lemma.body)))[lemma.name]
+        own = WORD.findall("\n".join(lemma.body)).count(lemma.name)
         if counts[lemma.path][lemma.name] <= own and (not lemma.public or everywhere[lemma.name] <= own):
             yield lemma
 
@@ -136,17 +132,10 @@ def twins(lemmas):
             yield outer
 
 
-def main():
-    lemmas = [lemma for path in sources(".antt") if "proofs" in path.parts for lemma in lemmas_of(path)]
-    lemmas = [lemma for lemma in lemmas if lemma.path.stem not in ("Answers", "Invariants", "Measures")]
-    dead, same = list(unnamed(lemmas)), list(twins(lemmas))
-    for lemma in dead:
-        print(f"nothing names {lemma}")
-    for group in same:
-        print("the same: " + ", ".join(map(str, group)))
-    print(f"{len(lemmas)} lemmas, {len(dead)} that nothing names, {len(same)} that are said twice")
-    return 1 if dead or same else 0
-
-
-if __name__ == "__main__":
-    sys.exit(main())
+def check():
+    """How many lemmas there are, and what is wrong with them."""
+    files = [path for crate in libraries() for path in sources(crate, ["proofs"]) if path.suffix == ".antt"]
+    lemmas = [lemma for path in files if path.stem not in GOALS for lemma in lemmas_of(path)]
+    wrong = [f"nothing names {lemma}" for lemma in unnamed(lemmas)]
+    wrong += ["the same: " + ", ".join(map(str, group)) for group in twins(lemmas)]
+    return f"{len(lemmas):,} lemmas", wrong

@@ -1,15 +1,11 @@
-#!/usr/bin/env python3
-"""Says in what docs/PROMISES.md differs from the tree: edits that it does not name, or that are not there or in the other place, promises of whose edits the
-gate tries none, and functions that are not there.
-
-    python3 tools/promises.py
+"""In what docs/PROMISES.md differs from the tree: edits that it does not name, or that are not there or in the other place, promises of whose edits the gate
+tries none, and functions that are not there.
 
 A row names its edits in its last column, those of the gate in bold, and in the one before it functions, or clauses of them as `run.chosen`, each group
-with its crate after it in parentheses. A row that begins with an arrow is a part of the promise above it. The exit status is 1 if something is wrong.
+with its crate after it in parentheses. A row that begins with an arrow is a part of the promise above it.
 """
 import collections
 import re
-import sys
 
 from repository import BESIDE, IN_GATE, TOP, edits, libraries, sources
 
@@ -46,7 +42,8 @@ def untried(found):
     return [promise for promise, named in whole if set(WORD.findall(named)) - set(libraries()) and not BOLD.search(named)]
 
 
-def main():
+def check():
+    """How many edits there are, and what is wrong with the page."""
     crates = libraries()
     there = {place: collections.Counter(edit.stem for crate in crates for edit in edits(crate, place)) for place in (IN_GATE, BESIDE)}
     found = list(rows())
@@ -59,9 +56,4 @@ def main():
     names = sorted(in_gate | in_bold)
     wrong += [f"edit {name}: bold {in_bold[name]} times, in the gate {in_gate[name]} times" for name in names if in_bold[name] != in_gate[name]]
     wrong += [f"no edit in the gate: {promise}" for promise in untried(found)]
-    print(*wrong, f"{in_gate.total()} edits in the gate, {there[BESIDE].total()} beside it, {len(wrong)} wrong", sep="\n")
-    sys.exit(1 if wrong else 0)
-
-
-if __name__ == "__main__":
-    main()
+    return f"{in_gate.total()} edits in the gate, {there[BESIDE].total()} beside it", wrong
