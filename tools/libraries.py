@@ -9,13 +9,13 @@ tools/check looks whether each crate lists just the libraries that its sources n
 import argparse
 import functools
 
-from repository import libraries, names, sources, with_beneath
+from repository import libraries, named_in, sources, with_beneath
 
 
 def needless(crate, named):
     """The libraries that a crate lists and names nowhere. (One that it names and does not list is told by the check of the crate.)"""
-    text = "\n".join(file.read_text() for file in sources(crate))
-    return [library for library in named[crate] if not names(text, library)]
+    found = set().union(*(named_in(file.read_text()) for file in sources(crate)))
+    return [library for library in named[crate] if library not in found]
 
 
 def ways_down(named):

@@ -52,9 +52,9 @@ def lines_of(folder, pattern):
     return sum(1 for file in folder.rglob(pattern) for line in file.read_text().splitlines() if line.strip())
 
 
-def names(text, library):
-    """Whether a source names a library: as `library::item` in code, or as `Rattle.library.specs.Item`."""
-    return re.search(rf"\bRattle\.{library}\.|(?<![\w.:]){library}::", text) is not None
+def named_in(text):
+    """The libraries that a source names: as `library::item` in code, or as `Rattle.library.specs.Item`."""
+    return {name for pair in re.findall(r"\bRattle\.(\w+)\.|(?<![\w.:])(\w+)::", text) for name in pair}
 
 
 def git(*words):
