@@ -1,9 +1,9 @@
 #!/usr/bin/env python3
 """Prints what the tests of chains expect, worked out here from the written format, apart from the program.
 
-First the octets of a chain of one decree in format 2, in which chains are written, and in format 1, which earlier programs wrote, those of a
-chain of 18 decrees, and those of a fate and of its Told. Then what becomes of each of the first two with one of its octets changed: a letter for each place and each of the octets 00,
-7f, 80 and ff, which is k if it still is a permitted chain, p if it is a chain that is not permitted, and b if it is no chain's octets.
+First the octets of a chain of one decree in format 2, in which chains are written, and in format 1, which earlier programs wrote, those of a chain of 18
+decrees, and those of a fate and of its Told. Then what becomes of each of the first two with one of its octets changed: a letter for each place and each of
+the octets 00, 7f, 80 and ff, which is k if it still is a permitted chain, p if it is a chain that is not permitted, and b if it is no chain's octets.
 
     python3 bench/chain_octets.py
 """

@@ -1,8 +1,8 @@
 """Files of edits: what each replaces, and by what.
 
-A file is lines `KEY: TEXT`. `file:` names a file; each pair `old:` and `new:` behind it replaces a text that stands there once, each pair in what the ones before
-it made. U+23CE in a text stands for a line's end. What stands above the first `file:` says who has to refuse the edit: `law:` for a weakening, `tests:` for a
-body that tests refuse, and nothing for an edit of a crate, whose files are named from the crate's folder.
+A file is lines `KEY: TEXT`. `file:` names a file; each pair `old:` and `new:` behind it replaces a text that stands there once, each pair in what the ones
+before it made. U+23CE in a text stands for a line's end. What stands above the first `file:` says who has to refuse the edit: `law:` for a weakening,
+`tests:` for a body that tests refuse, and nothing for an edit of a crate, whose files are named from the crate's folder.
 """
 import pathlib
 from typing import NamedTuple

@@ -58,8 +58,8 @@ def named_in(text):
 
 
 def git(*words):
-    """What a command of git prints."""
-    return subprocess.run(["git", *words], cwd=TOP, capture_output=True, text=True, check=True).stdout
+    """What a command of git prints, also in a tree of another user."""
+    return subprocess.run(["git", "-c", "safe.directory=*", *words], cwd=TOP, capture_output=True, text=True, check=True).stdout
 
 
 def today_and_commit():

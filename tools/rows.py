@@ -63,8 +63,8 @@ def run(program):
 
 def check():
     """How many scripts there are, and whether the tests have them."""
-    is_same = FILE.read_text() == rust()
-    return f"{len(list(rows()))} scripts", [] if is_same else [f"{FILE.relative_to(ROOT)} is not what the scripts and examples say: python3 tools/rows.py --write"]
+    wrong = [] if FILE.read_text() == rust() else [f"{FILE.relative_to(ROOT)} is not what they say: python3 tools/rows.py --write"]
+    return f"{len(list(rows()))} scripts and examples", wrong
 
 
 def main():

@@ -37,7 +37,8 @@ class Table(unittest.TestCase):
             self.assertEqual(harm.seen_of(line, status, 3).wrong, 1, (line, status))
 
     def test_rows(self):
-        seen = {"kill": harm.Seen("kills of 20 stores", "200", 0, 306.7), "store_checks": harm.Seen("left out, since it needs --store", "", 0, 0, "it needs --store")}
+        left_out = harm.Seen("left out, since it needs --store", "", 0, 0, "it needs --store")
+        seen = {"kill": harm.Seen("kills of 20 stores", "200", 0, 306.7), "store_checks": left_out}
         self.assertEqual(list(harm.table(seen)), ["| kill | kills of 20 stores | 200 | 0 | 307 |", "| store_checks | left out, since it needs --store | | | |"])
 
 

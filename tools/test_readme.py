@@ -1,7 +1,7 @@
 #!/usr/bin/env python3
 """Looks whether what README says of the set-up is so, here and on this machine: python3 tools/test_readme.py
 
-Of the kit it looks at what `rt version` prints, if there is an `rt`: its logic has to be that of README."""
+Of the kit it looks at what `rt version` prints, if there is an `rt`: its logic has to be that of README. tools/check looks at all but this machine."""
 import ast
 import pathlib
 import re
@@ -15,6 +15,7 @@ README = (ROOT / "README.md").read_text()
 SET_UP = README.split("\n## Set up\n")[1].split("\n## ")[0]
 LOGIC = re.compile(r"logic ([0-9a-f]{16})")
 KIT = re.compile(r"rattle-kit-\w+")
+PYTHON = tuple(int(word) for word in re.search(r"Python (\d+)\.(\d+) or later", SET_UP).groups())
 
 
 def commands(text):
@@ -37,6 +38,11 @@ class Kit(unittest.TestCase):
         self.assertIn(measured[1], KIT.findall(SET_UP))
         self.assertEqual(measured[2], LOGIC.search(SET_UP)[1])
 
+
+class ThisMachine(unittest.TestCase):
+    def test_the_version_of_python(self):
+        self.assertGreaterEqual(sys.version_info, PYTHON)
+
     @unittest.skipUnless(shutil.which("rt"), "rt is not on the path")
     def test_this_kit_has_the_logic(self):
         version = subprocess.run(["rt", "version"], capture_output=True, text=True, check=True).stdout
@@ -46,20 +52,12 @@ class Kit(unittest.TestCase):
         self.assertTrue(pathlib.Path(page).is_file(), page)
 
 
-class Machine(unittest.TestCase):
-    def test_the_version_of_python(self):
-        """The tools are Python of the version that README asks for, as far as their grammar tells, and this one is not older."""
-        wanted = tuple(int(word) for word in re.search(r"Python (\d+)\.(\d+) or later", SET_UP).groups())
-        self.assertGreaterEqual(sys.version_info, wanted)
-        for path in [*ROOT.glob("tools/**/*.py"), *ROOT.glob("bench/**/*.py")]:
-            ast.parse(path.read_text(), str(path), feature_version=wanted)
-
-
 class Commands(unittest.TestCase):
-    def test_files_and_tools_are_there(self):
-        for page in ["README.md", "CONTRIBUTING.md", "examples/README.md", *(f"docs/{path.name}" for path in (ROOT / "docs").glob("*.md"))]:
-            for name in set(re.findall(r"\b(?:tools|bench)/\w+\.py\b", (ROOT / page).read_text())):
-                self.assertTrue((ROOT / name).is_file(), f"{page} names {name}")
+    def test_tools_are_python_of_the_version(self):
+        """As far as their grammar tells."""
+        commands = [ROOT / "tools" / name for name in ("check", "mutate", "harm")]
+        for path in [*commands, *ROOT.glob("tools/**/*.py"), *ROOT.glob("bench/**/*.py")]:
+            ast.parse(path.read_text(), str(path), feature_version=PYTHON)
 
     def test_the_gate_is_what_is_called(self):
         gate = packed((ROOT / ".ci/run").read_text()).partition("rt ci ")

@@ -6,24 +6,38 @@ from repository import TOP, git
 # The numbering of papers that no reader of the repository has.
 PAPERS = re.compile(r"(?<!\w)(R(1[0-6]|[1-9])[a-e]?|T[1-5]|D(2[0-3]|1[0-9]|[1-9])|W(2[0-2]|1[0-9]|[1-9])[ab]?|P[1-6]|V(1[0-8]|[1-9])"
                     r"|document 0[1-4]|0[1-4]-[a-z]+\.md)(?!\w)")
+# What a text may name of the tools: a file, or a folder.
+TOOL = re.compile(r"(?<![\w/])(?:tools|bench)/\w+(?:\.py)?\b")
 TEXTS = (".rt", ".antt", ".md", ".edit", ".toml", ".txt", ".sh", ".py")
+COMMANDS = (".ci/run", "tools/check", "tools/mutate", "tools/harm")
 MOST_LINES, MOST_OCTETS = 40, 500_000
 HANDLES = "Handles allowed: Threads, Wait, Net.\n"
 
 
 def kept():
     """The files that git keeps, by their paths."""
-    return git("-c", "safe.directory=*", "ls-files").splitlines()
+    return git("ls-files").splitlines()
+
+
+def texts():
+    """The files that people write and read, with what they say."""
+    for file in kept():
+        if file.endswith(TEXTS) or file in COMMANDS:
+            yield file, (TOP / file).read_text()
 
 
 def papers():
-    files = [file for file in kept() if file.endswith(TEXTS) or file in (".ci/run", "tools/check", "tools/mutate", "tools/harm")]
-    wrong = []
-    for file in files:
-        text = (TOP / file).read_text()
+    wrong, count = [], 0
+    for file, text in texts():
+        count += 1
         if PAPERS.search(text):
             wrong += [f"{file}:{place} cites a paper: {line.strip()[:100]}" for place, line in enumerate(text.splitlines(), 1) if PAPERS.search(line)]
-    return f"{len(files):,} texts", wrong
+    return f"{count:,} texts", wrong
+
+
+def tools():
+    named = {(file, tool) for file, text in texts() for tool in TOOL.findall(text)}
+    return f"{len(named)} names", [f"{file} names {tool}, which is not there" for file, tool in sorted(named) if not (TOP / tool).exists()]
 
 
 def crate_readmes():
