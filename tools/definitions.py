@@ -128,6 +128,8 @@ class Definitions:
         self.constructors = {key: name for source in every for key, name in source.constructors.items()}
         self.files = {(source.crate, source.module): source for source in every}
         self.firsts = {crate: [source for source in found if source.file.name in ("lib.rt", "Lib.antt")] for crate, found in self.sources.items()}
+        # What each definition names, once somebody has asked for it.
+        self.direct = {}
         self.laws = {crate: {name for source in found for name in LAW.findall(source.text)} for crate, found in self.sources.items()}
 
     def resolve(self, module, name, tries=4):
@@ -152,16 +154,24 @@ class Definitions:
             if path.startswith(CODE) and name in first.names:
                 yield first.names[name]
 
+    def named_by(self, source, text):
+        """The definitions that a text names."""
+        return [key for name in source.named_in(text) if (key := self.resolve(*name))]
+
+    def beneath(self, key):
+        """The definitions that one names."""
+        if key not in self.direct:
+            self.direct[key] = self.named_by(self.home[key], "\n".join(self.home[key].definitions[key]))
+        return self.direct[key]
+
     def behind(self, promises):
         """The definitions behind functions and clauses, each with its lines."""
-        ahead, stands = [self.clauses(promise) for promise in promises], {}
+        ahead, stands = [key for promise in promises for key in self.named_by(*self.clauses(promise))], {}
         while ahead:
-            source, text = ahead.pop()
-            for module, name in source.named_in(text):
-                key = self.resolve(module, name)
-                if key and key not in stands:
-                    stands[key] = self.home[key].definitions[key]
-                    ahead.append((self.home[key], "\n".join(stands[key])))
+            key = ahead.pop()
+            if key not in stands:
+                stands[key] = self.home[key].definitions[key]
+                ahead += self.beneath(key)
         return stands
 
     def clauses(self, promise):
