@@ -11,7 +11,7 @@ import unittest
 from types import SimpleNamespace
 from unittest import mock
 
-from repository import TOP
+from repository import TOP, write_between_marks
 
 LOADER = importlib.machinery.SourceFileLoader("harm", str(TOP / "tools/harm"))
 harm = importlib.util.module_from_spec(importlib.util.spec_from_loader("harm", LOADER))
@@ -66,6 +66,22 @@ class Commands(unittest.TestCase):
     def test_what_is_left_out(self):
         self.assertEqual(harm.lack("store_checks", self.given()), "it needs --store")
         self.assertEqual(harm.lack("cluster_checks", self.given()), "")
+
+
+class Marks(unittest.TestCase):
+    def test_what_stands_between_them_is_written(self):
+        with tempfile.TemporaryDirectory() as folder:
+            page = pathlib.Path(folder, "page.md")
+            page.write_text("a\n<!-- harm: begin -->\nold\n<!-- harm: end -->\nb\n")
+            write_between_marks(page, "harm", ["new", "newer"])
+            self.assertEqual(page.read_text(), "a\n<!-- harm: begin -->\nnew\nnewer\n<!-- harm: end -->\nb\n")
+            with self.assertRaises(ValueError):
+                write_between_marks(page, "weakenings", [])
+
+    def test_the_pages_have_them(self):
+        for name, page in (("harm", "HOSTILE.md"), ("weakenings", "HEADLINE.md")):
+            text = (TOP / "docs" / page).read_text()
+            self.assertEqual([text.count(f"\n<!-- {name}: {side} -->\n") for side in ("begin", "end")], [1, 1], page)
 
 
 class Command(unittest.TestCase):
