@@ -11,8 +11,9 @@ from unittest import mock
 
 from edit_files import Misplaced, edit_of, edited, make, put
 from mutating import compile_checks, edits, refused_bodies, weakenings
+from mutating.copies import copy_sources
 from mutating.mutation import How, Mutation
-from repository import TOP, git
+from repository import TOP, git, libraries
 
 LOADER = importlib.machinery.SourceFileLoader("mutate", str(TOP / "tools/mutate"))
 mutate = importlib.util.module_from_spec(importlib.util.spec_from_loader("mutate", LOADER))
@@ -113,6 +114,15 @@ class Selection(unittest.TestCase):
         self.assertIn("planted desk/last_serial_refused", above)
 
 
+class Copies(With):
+    def test_crates_are_listed_as_they_are(self):
+        copy_sources(self.folder, "worker_parts", libraries())
+        listed = (self.folder / "crates.txt").read_text().splitlines()
+        self.assertIn("worker_parts may_wait=", "\n".join(listed))
+        self.assertLessEqual(set(listed), set((TOP / "crates.txt").read_text().splitlines()))
+        self.assertEqual({line.replace(":", " ").split()[0] for line in listed}, {path.name for path in (self.folder / "crates").iterdir()})
+
+
 class Tries(With):
     def test_edits(self):
         planted = mutate.named(mutate.of_kinds(["planted"]), ["pdu_fields"])
@@ -141,7 +151,7 @@ class Tries(With):
         edit = edit_of(first.file)
         new, file = edit.replacements[0].new.splitlines()[-1], edit.replacements[0].file
         script = f'test "$*" = "check --only {edit.head["law"]}" || exit 9\ngrep -qF \'{new}\' ../../{file} && echo "fn {edit.head["law"]}: refused"\n'
-        copies = weakenings.Copies(weakenings.libraries(), self.how(script))
+        copies = weakenings.Copies(libraries(), self.how(script))
         (_, outcome), = weakenings.tried(first, copies, self.how(script))
         self.assertTrue(outcome.is_refused, outcome)
         with copies.with_crate(first.judge) as copy:

@@ -19,9 +19,10 @@ def folder():
         shutil.rmtree(made)
 
 
-def list_crates(copy, crates, named):
-    """Lists these crates in a copy, with their libraries and what they may handle."""
-    (copy / "crates.txt").write_text("".join(f"{name}: {' '.join(named[name])}\n" for name in crates))
+def list_crates(copy, crates):
+    """Lists these crates in a copy, by their lines of crates.txt, with what they may handle."""
+    lines = (TOP / "crates.txt").read_text().splitlines(keepends=True)
+    (copy / "crates.txt").write_text("".join(line for line in lines if (words := line.replace(":", " ").split()) and words[0] in crates))
     shutil.copy(TOP / "HANDLES", copy)
 
 
@@ -33,5 +34,5 @@ def copy_sources(copy, crate, named):
             there = TOP / "crates" / name / part
             if there.is_dir():
                 shutil.copytree(there, copy / "crates" / name / part)
-    list_crates(copy, crates, named)
+    list_crates(copy, crates)
     return crates

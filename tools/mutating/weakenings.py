@@ -42,7 +42,7 @@ class Copies:
         for name in with_beneath([crate], self.named):
             if not (copy / "crates" / name).is_dir():
                 shutil.copytree(TOP / "crates" / name, copy / "crates" / name, symlinks=True)
-        list_crates(copy, [name for name in self.named if (copy / "crates" / name).is_dir()], self.named)
+        list_crates(copy, [path.name for path in (copy / "crates").iterdir()])
         yield copy
         self.free.put(copy)
 
