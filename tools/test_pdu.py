@@ -13,7 +13,7 @@ import unittest
 import xml.etree.ElementTree
 
 import pdu
-from chart_pdus import BODIES, LIMITS, PARAMETERS
+from chart_pdus import BODIES, LIMITS
 
 ROOT = pathlib.Path(__file__).resolve().parent.parent
 RECEIPT = "id:1000100001 sub:001 dlvrd:001 submit date:2401310000 done date:2401310000 stat:DELIVRD err:000 text:Hi"
