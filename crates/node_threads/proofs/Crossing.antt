@@ -7,7 +7,7 @@ use Rattle.std.specs.contracts.option.Option as Option
 use Rattle.std.specs.declared.sync.ledger.Ledger as Ledger
 use Rattle.stable_store.specs.declared.store.StableStore as Store
 use Rattle.synod_acceptor.proofs.packet.Packet.TheSendSync as packet
-use Rattle.node_kept.proofs.stopped.Stopped.TheSendSync as stopped
+use Rattle.node_core.proofs.StoppedSendSync as stopped
 use Rattle.node_core.specs.contracts.node.Node as Node
 use Rattle.node_core.specs.contracts.node.Node.TheInside as NodeFields
 use Rattle.journal_parts.specs.declared.begins.Begins as Begins

@@ -6,7 +6,7 @@ use crate::site::Site;
 use crate::trouble::Trouble;
 use desk::Request;
 use esme_service::{Asked, Heard};
-use node_threads::{Action, Begins, Seat};
+use node_workers::{Action, Begins, Seat};
 use pdu_tables::Status;
 use sessions::{Outgoing, Requested, Response};
 use stable_store::StableStore;

@@ -7,7 +7,7 @@ use crate::starting::{start_attendant, start_packets, start_ticks};
 use crate::station::{Station, Wake};
 use crate::ticking::tick_first;
 use mc_types::MsgId;
-use node_threads::{Begins, Life, Refusal};
+use node_workers::{Begins, Life, Refusal};
 use stable_store::StableStore;
 use std::rt::Clock;
 use std::sync::Wait;

@@ -10,7 +10,7 @@ use connection_parts::{Job, Tally};
 use esme_service::{Sending, Service};
 use fate_chain::Chain;
 use mc_types::{Moment, MsgId, Slot};
-use node_threads::{Attempt, Outputs};
+use node_workers::{Attempt, Outputs};
 use pdu_codec::{Pdu, SystemId};
 use sessions::{Delivery, Outgoing, Pushed};
 use std::alloc::{AllocError, Global};

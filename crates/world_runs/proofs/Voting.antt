@@ -25,7 +25,7 @@ use Rattle.node_laws.specs.Clusters.{MayHappen, NodeInput, StatesFinal, kept_rea
 use Rattle.node_laws.proofs.cluster.Chosen.{none_mapped}
 use Rattle.node_laws.proofs.cluster.Clustered.{clustered, one_more}
 use Rattle.node_laws.proofs.cluster.Sources.{IsCutAt, IsStepOf, cut_at, in_older, step_of, told_by}
-use Rattle.world_runs.proofs.Receiving.{ComesWith, exact_receives}
+use Rattle.mc_laws.proofs.step.Receiving.{ComesWith, exact_receives}
 
 rest_same : (step other : Step) (steps others : List Step) → step ∷ steps ≡ other ∷ others → steps ≡ others
 rest_same step other steps others same = cc
