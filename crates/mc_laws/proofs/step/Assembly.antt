@@ -19,21 +19,9 @@ use Rattle.mc_model.specs.cluster.World.{World, reached, start, IsRun, after, se
 use Rattle.mc_model.specs.cluster.Steps.{Cluster, setup_of, IsStep, Step, AreSteps, CameTo, by_node, acts_in}
 use Rattle.mc_model.specs.cluster.Assembly.{EachCame, WasSent, acts_of, steps_of}
 use Rattle.mc_parts.proofs.Membership.{in_right, in_either}
-use Rattle.mc_laws.proofs.step.Receiving.{ComesWith, exact_receives}
+use Rattle.mc_laws.proofs.step.Receiving.{ComesWith, came_by_input, exact_receives}
 use Rattle.mc_laws.proofs.step.Behind.{run_behind, steps_run}
 use Rattle.mc_laws.proofs.step.Together.{acts_here, acts_apart, alone, may_together, IsAlone}
-
--- ---- the packet that a step receives is its own
-
-came_by_input : (w : World) (input : Input) (packet : Packet) → CameTo w input → ComesWith input packet → In packet w.packets
-came_by_input w (Delivery packet) other came same = subst (λ (p : Packet). In p w.packets) (sym same) came
-came_by_input w (Crash packet after) other came same = subst (λ (p : Packet). In p w.packets) (sym same) came
-came_by_input w (Arrival request) other came none = absurd none
-came_by_input w (Refusal status) other came none = absurd none
-came_by_input w (Tick moment up) other came none = absurd none
-came_by_input w (Grant slot) other came none = absurd none
-came_by_input w (Response slot outcome) other came none = absurd none
-came_by_input w (Restart lost) other came none = absurd none
 
 -- ---- a run goes on by the acts of one node
 

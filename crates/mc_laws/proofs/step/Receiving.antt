@@ -1,5 +1,5 @@
 -- The packet that a node receives in a step is the one that came by it.
-use Rattle.std.proofs.Common.{◌≡◌, ℕ, true, false, List, [], ◌∷◌, ◌++◌, subst, inl, inr}
+use Rattle.std.proofs.Common.{◌≡◌, ℕ, true, false, List, [], ◌∷◌, ◌++◌, sym, subst, inl, inr}
 use Rattle.mc_model.specs.synod.Lists.{In}
 use Rattle.mc_model.specs.synod.Packet.{Ask, Packet, Prepare, Promise, Propose, Refused, Tell, Voted}
 use Rattle.mc_model.specs.synod.Acceptor.{Records}
@@ -12,6 +12,8 @@ use Rattle.mc_model.specs.node.Due.{AreDue, AreDueOnce}
 use Rattle.mc_model.specs.node.Core.{AcceptorReplies, IsCore, IsSaved}
 use Rattle.mc_model.specs.node.Phases.{DueToAbandon, DueToAsk, DueToEnd}
 use Rattle.mc_model.specs.node.Step.{IsExact}
+use Rattle.mc_model.specs.cluster.World.{World}
+use Rattle.mc_model.specs.cluster.Steps.{CameTo}
 use Rattle.mc_parts.proofs.Membership.{in_either}
 
 abbrev ReceivesNone : List Act → Type 0
@@ -61,6 +63,17 @@ abbrev pub ComesWith : Input → Packet → Type 0
 ComesWith (Delivery packet) other = other ≡ packet
 ComesWith (Crash packet after) other = other ≡ packet
 ComesWith input other = ⊥
+
+-- and that packet was sent before
+pub came_by_input : (w : World) (input : Input) (packet : Packet) → CameTo w input → ComesWith input packet → In packet w.packets
+came_by_input w (Delivery packet) other came same = subst (λ (p : Packet). In p w.packets) (sym same) came
+came_by_input w (Crash packet after) other came same = subst (λ (p : Packet). In p w.packets) (sym same) came
+came_by_input w (Arrival request) other came none = absurd none
+came_by_input w (Refusal status) other came none = absurd none
+came_by_input w (Tick moment up) other came none = absurd none
+came_by_input w (Grant slot) other came none = absurd none
+came_by_input w (Response slot outcome) other came none = absurd none
+came_by_input w (Restart lost) other came none = absurd none
 
 received_only : (records : Records) (packet : Packet) (answer acts : List Act) → ReceivesNone answer →
     acts ≡ answer ++ Receives packet ∷ [] →
