@@ -211,7 +211,7 @@ fn begin_anew<S: StableStore, L: Begins, R: Wait + Eprint + Clock>(
         ),
     );
     if let Ok(id) = MsgId::make(station.node, incarnation, 1) {
-        let _ = station.site.lock(rt).refuse_waiting(rt, id);
+        station.site.lock(rt).refuse_waiting(rt, id);
     }
     station.serials.store(0, Ordering::SeqCst);
     station.has_ticked.store(false, Ordering::SeqCst);

@@ -48,6 +48,7 @@ fn deliver<'x, S: StableStore, L: Begins, R: Wait + Eprint>(
         alloc: shift.shared.house.alloc,
         connection,
         berth,
+        sequence: job.pushed.sequence,
         knows_optional: job.pushed.knows_optional,
         long: job.long,
         is_sent: false,
