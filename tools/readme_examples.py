@@ -8,8 +8,8 @@
 A README has MOST_LINES lines at most. That of each crate has a program that calls the crate, but for those of CALLED_BY_NOBODY and of crates of tests. The
 program is a block with a `fn main`, or, if it is too long for that, the folder `examples/callers/CRATE`, which the README names. The README has its line for
 `crates.txt`, as `caller: pdu_codec`, before the block or beside the folder's name, and behind that what it prints. A folder has what the crate `caller` has:
-`src/main.rt` and, if its proof needs them, files in `proofs`. To try a program, the crates are copied to a folder of their own, with what is built of their
-libraries; there the program is the crate `caller`. This is beside the gate.
+`src/main.rt` and, if its proof needs them, files in `proofs`; each file has `.in` behind its name, since `rt ci` refuses code that no check reads. To try a
+program, the crates are copied to a folder of their own, with what is built of their libraries; there the program is the crate `caller`. This is beside the gate.
 
 A block without a `fn main` is a part of a file, and comes after a sentence that names the file under `crates`. Each line of the block has to stand in the file
 that was named last, in this order; so it is code that the gate proves.
@@ -72,8 +72,8 @@ def blocks():
 
 
 def files_in(folder):
-    """The files of a program by their paths."""
-    return {str(path.relative_to(folder)): path.read_text() for path in folder.rglob("*") if path.is_file()}
+    """The files of a program by their paths in the crate `caller`."""
+    return {str(path.relative_to(folder).with_suffix("")): path.read_text() for path in folder.rglob("*.in")}
 
 
 def program_in(crate, text):
@@ -81,7 +81,7 @@ def program_in(crate, text):
     for block in BLOCK.finditer(text):
         if "fn main(" in block.group(1):
             return block.end(), text[:block.start()], {"src/main.rt": block.group(1)}
-    place = text.find(f"(../../examples/callers/{crate}/src/main.rt)")
+    place = text.find(f"(../../examples/callers/{crate}/src/main.rt.in)")
     return None if place < 0 else (place, text[place:], files_in(FOLDERS / crate))
 
 
