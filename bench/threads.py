@@ -35,7 +35,7 @@ def built_here(work):
         target.parent.mkdir(parents=True, exist_ok=True)
         shutil.copy(source, target)
     with (clone / "crates.txt").open("a") as crates:
-        crates.write("threads_bench: mc_types desk pdu_codec stable_store sql_store sqlite sql_crossing node_core world node_threads node_crossing\n")
+        crates.write("threads_bench: mc_types desk pdu_codec stable_store sql_store sqlite node_stores node_core world node_threads\n")
     built = subprocess.run(["rt", "run", "--", "world", "/tmp", "1", "1", "1"], cwd=crate, capture_output=True, text=True)
     if built.returncode != 0:
         sys.exit(built.stdout + built.stderr)

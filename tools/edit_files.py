@@ -1,14 +1,15 @@
 """Files of edits: what each replaces, and by what.
 
 A file is lines `KEY: TEXT`. `file:` names a file; each pair `old:` and `new:` behind it replaces a text that stands there once, each pair in what the ones
-before it made. U+23CE in a text stands for a line's end. What stands above the first `file:` says who has to refuse the edit: `law:` for a weakening,
-`tests:` for a body that tests refuse, and nothing for an edit of a crate, whose files are named from the crate's folder.
+before it made. U+23CE in a text stands for a line's end. What stands above the first `file:` says what the edit is: `law:` names the law that has to refuse a
+weakening, `tests:` the tests that have to refuse a body, and `promise:` the promise of an edit of a crate, whose files are named from the crate's folder.
 """
 import pathlib
 from typing import NamedTuple
 
 LINE_END = "\u23ce"
-KEYS = ("law", "tests", "file", "old", "new")
+HEADS = ("law", "tests", "promise")
+KEYS = (*HEADS, "file", "old", "new")
 
 
 class Replacement(NamedTuple):
@@ -36,7 +37,7 @@ def edit_of(path):
         if key not in KEYS or not colon:
             raise Misplaced(f"{path.name} has a line that is none of an edit: {line[:80]}")
         text = text.removeprefix(" ").replace(LINE_END, "\n")
-        if key in ("law", "tests"):
+        if key in HEADS:
             head[key] = text
         given[key] = text
         if key == "new":

@@ -1,7 +1,7 @@
 #!/usr/bin/env python3
 """Runs the program over each example, and compares what it writes with what stands beside it.
 
-    python3 tools/examples.py --try          # builds it unproved, by `rt try` in crates/centre: a minute
+    python3 tools/examples.py --try          # builds it unproved, by `rt try` in crates/centre: some minutes
     python3 tools/examples.py PROGRAM        # runs a built program, as crates/centre/out/centre
 
 The examples are the first script, each line of which has to stand in README; those of the folder `examples`, NAME.script with NAME.expected and, if they

@@ -9,12 +9,13 @@
     python3 tools/measure_gate.py --functions CRATE   checks one crate from nothing, with its tests; prints its ten dearest functions, and
                                                       the sum of the sizes of its `*Lts.oantt`, which does not depend on what runs beside
 
-Processor time is read off /proc four times a second for each process that the gate starts: what a process used after its last reading is lost, and stands
-under 'other' with compilers, linkers and `rt` itself. The last line of the gate is printed as it is. Beside others a process takes more processor
-time than alone, and on one core the gate runs one at a time.
+Processor time and memory are read off /proc four times a second for each process that the gate starts: what a process used after its last reading is lost,
+and stands under 'other' with compilers, linkers and `rt` itself. The last line of the gate is printed as it is. Beside others a process takes more
+processor time than alone, and on one core the gate runs one at a time.
 """
 import argparse
 import collections
+import dataclasses
 import datetime
 import os
 import pathlib
@@ -36,29 +37,42 @@ BEGIN, END = "<!-- measured: begin -->", "<!-- measured: end -->"
 # How long the lines of the page are at most.
 WIDTH = 160
 
-# Budgets, in minutes of processor time: for the first lines of code, for each thousand more, and for the whole whatever it has.
-FIRST_LINES, MOST_OF_FIRST, MOST_A_THOUSAND, MOST_OF_ALL = 28_849, 150, 8, 220
+# Budgets: minutes of processor time for the first lines of code, and for each thousand more; minutes of the clock, by how many cores there are.
+FIRST_LINES, MOST_OF_FIRST, MOST_A_THOUSAND = 54_240, 260, 8
+MOST_OF_THE_CLOCK = {2: 130, 4: 75}
 # Edits of a crate in the gate, and seconds of one.
 MOST_EDITS, MOST_AN_EDIT = 6, 25
-# Seconds of the tests of a crate.
-MOST_TESTS = 120
+# Seconds of the clock of the check of a crate, seconds of its tests, and octets of memory of a prover.
+MOST_A_CHECK, MOST_TESTS, MOST_MEMORY = 300, 120, 4_000_000_000
 
 KINDS = ("check", "tests", "edits")
 HEAD = [
-    "| Crate | Code | Definitions | Proofs | Edits | Beside | Check, s | Tests, s | Edits, s | All, min |",
-    "|---|---|---|---|---|---|---|---|---|---|",
+    "| Crate | Code | Definitions | Proofs | Edits | Beside | Check, s | of the clock | GB | Tests, s | GB | Edits, s | All, min |",
+    "|---|---|---|---|---|---|---|---|---|---|---|---|---|",
 ]
 
 
+@dataclasses.dataclass
+class Process:
+    """A process that the gate started: the crate and the kind of its work, or None for others; the folder that it works in, of which each edit has one of
+    its own; its processor time, and when it was first and last seen, in seconds; and the most memory that it held, in octets."""
+
+    work: tuple[str, str] | None
+    folder: str | None
+    began: float
+    ended: float = 0.0
+    used: float = 0.0
+    peak: int = 0
+
+
 class Sampler(threading.Thread):
-    """Adds up what the processes below one process use, by crate and by kind of work."""
+    """Looks at the processes below one process, until it is told that they have ended."""
 
     def __init__(self, root):
         super().__init__(daemon=True)
         self.root = root
-        self.used, self.kinds = {}, {}
-        # The folder that a process works in: each edit has one of its own.
-        self.rooms = {}
+        # By the moment at which a process began and its number, since numbers come again.
+        self.seen = {}
         self.ended = threading.Event()
 
     def run(self):
@@ -66,25 +80,31 @@ class Sampler(threading.Thread):
             self.sample()
 
     def sample(self):
-        parents, seen = {}, {}
+        parents, found = {}, {}
         for entry in os.listdir("/proc"):
             if not entry.isdigit():
                 continue
             try:
                 stat = pathlib.Path(f"/proc/{entry}/stat").read_text()
-                fields = stat[stat.rindex(")") + 2:].split()
-                parents[int(entry)] = int(fields[1])
-                seen[int(entry)] = (int(fields[19]), int(fields[11]) + int(fields[12]))
-            except (OSError, ValueError, IndexError):
+            except OSError:
                 continue
-        for pid, (started, ticks) in seen.items():
-            if not self.is_below_root(pid, parents):
-                continue
-            key = (started, pid)
-            # A process that was just forked still has its parent's command line: look again until it is one that counts.
-            if self.kinds.get(key) is None:
-                self.kinds[key], self.rooms[key] = kind_of(pid)
-            self.used[key] = ticks
+            fields = stat[stat.rindex(")") + 2:].split()
+            parents[int(entry)] = int(fields[1])
+            found[int(entry)] = (int(fields[19]), int(fields[11]) + int(fields[12]))
+        for pid, (started, ticks) in found.items():
+            if self.is_below_root(pid, parents):
+                self.look(pid, started, ticks / TICKS)
+
+    def look(self, pid, started, used):
+        """Notes what a process has used so far."""
+        now, key = time.monotonic(), (started, pid)
+        # A process that was just forked still has its parent's command line: look again until it is one that counts.
+        if key not in self.seen or self.seen[key].work is None:
+            work, folder = work_of(pid)
+            began = self.seen[key].began if key in self.seen else now
+            self.seen[key] = Process(work, folder, began)
+        process = self.seen[key]
+        process.ended, process.used, process.peak = now, used, max(process.peak, peak_of(pid))
 
     def is_below_root(self, pid, parents):
         while pid in parents:
@@ -93,24 +113,32 @@ class Sampler(threading.Thread):
             pid = parents[pid]
         return False
 
-    def of_rooms(self, crate):
+    def works(self, crate, kind):
+        """The processes of a kind of work on a crate, in the order in which they began."""
+        found = [process for process in self.seen.values() if process.work == (crate, kind)]
+        return sorted(found, key=lambda process: process.began)
+
+    def of_edits(self, crate):
         """Seconds of processor time in each folder in which an edit of a crate was tried, the first one first."""
-        rooms = {}
-        for key in sorted(self.used):
-            if self.kinds[key] == (crate, "edits"):
-                rooms[self.rooms[key]] = rooms.get(self.rooms[key], 0) + self.used[key] / TICKS
-        return list(rooms.values())
+        folders = collections.Counter()
+        for process in self.works(crate, "edits"):
+            folders[process.folder] += process.used
+        return list(folders.values())
 
-    def totals(self):
-        """Seconds of processor time, by crate and kind."""
-        totals = collections.Counter()
-        for key, ticks in self.used.items():
-            totals[self.kinds[key] or ("other", "other")] += ticks / TICKS
-        return totals
+    def seconds(self, crate, kind):
+        return sum(process.used for process in self.works(crate, kind))
+
+    def clock(self, crate, kind):
+        """Seconds of the clock of the longest process of a kind of work on a crate."""
+        return max((process.ended - process.began for process in self.works(crate, kind)), default=0.0)
+
+    def memory(self, crate, kind):
+        """The most memory that a process of this kind of work on a crate held, in octets."""
+        return max((process.peak for process in self.works(crate, kind)), default=0)
 
 
-def kind_of(pid):
-    """The crate that a process works on, whether it checks it, its tests or one of its edits, and the folder that it works in; None for others."""
+def work_of(pid):
+    """The crate that a process works on, with whether it checks it, its tests or one of its edits, and the folder that it works in; None for others."""
     try:
         words = pathlib.Path(f"/proc/{pid}/cmdline").read_bytes().decode(errors="replace").split("\0")
         folder = os.readlink(f"/proc/{pid}/cwd")
@@ -124,6 +152,15 @@ def kind_of(pid):
     if "--test" in words or any(word.endswith("_tests.o") for word in words):
         return (crate, "tests"), folder
     return (crate, "check"), folder
+
+
+def peak_of(pid):
+    """The most memory that a process held so far, in octets; 0 if it is gone."""
+    try:
+        held = re.search(r"VmHWM:\s+(\d+) kB", pathlib.Path(f"/proc/{pid}/status").read_text())
+    except OSError:
+        return 0
+    return int(held[1]) * 1024 if held else 0
 
 
 def anew():
@@ -152,51 +189,69 @@ def run_gate(clone):
     return sampler, time.monotonic() - began, processor, last[-1] if last else f"no last line: see {log}"
 
 
-def row_of(clone, crate, totals):
+def giga(octets):
+    return f"{octets / 1e9:.1f}"
+
+
+def minutes_of(sampler, crate):
+    return sum(sampler.seconds(crate, kind) for kind in KINDS) / 60
+
+
+def row_of(clone, crate, sampler):
     """The row of a crate."""
     folder = clone / "crates" / crate
     lines = [lines_of(folder / part, pattern) for part, pattern in (("src", "*.rt"), ("specs", "*.antt"), ("proofs", "*.antt"))]
     counts = [len(edits(crate, place, clone)) for place in (IN_GATE, BESIDE)]
-    seconds = [totals[(crate, kind)] for kind in KINDS]
-    cells = [crate, *lines, *counts, *(f"{spent:.0f}" for spent in seconds), f"{sum(seconds) / 60:.1f}"]
+    check, tests, tried = (f"{sampler.seconds(crate, kind):.0f}" for kind in KINDS)
+    clock, memory, of_tests = f"{sampler.clock(crate, 'check'):.0f}", giga(sampler.memory(crate, "check")), giga(sampler.memory(crate, "tests"))
+    cells = [crate, *lines, *counts, check, clock, memory, tests, of_tests, tried, f"{minutes_of(sampler, crate):.1f}"]
     return f"| {' | '.join(map(str, cells))} |"
 
 
 def edits_of(clone, crate, sampler):
     """Seconds of processor time of each edit of a crate in the gate, by its name. The first is tried over a whole check of the crate, and is not told."""
-    spent = sampler.of_rooms(crate)
+    spent = sampler.of_edits(crate)
     names = [f"{crate}/{edit.stem}" for edit in edits(crate, IN_GATE, clone)]
     return dict(list(zip(names, spent))[1:])
 
 
-def beyond_budgets(clone, sampler):
-    """The crates and edits that are beyond their budgets."""
-    totals = sampler.totals()
-    for crate in libraries(clone):
-        count, tests = len(edits(crate, IN_GATE, clone)), totals[(crate, "tests")]
-        if count > MOST_EDITS:
-            yield f"`{crate}` has {count} edits in the gate, above {MOST_EDITS}"
-        if tests > MOST_TESTS:
-            yield f"the tests of `{crate}` take {tests:.0f} seconds, above {MOST_TESTS}"
-        for edit, spent in edits_of(clone, crate, sampler).items():
-            if spent > MOST_AN_EDIT:
-                yield f"the edit `{edit}` takes {spent:.0f} seconds, above {MOST_AN_EDIT}"
+def beyond_of_crate(clone, crate, sampler):
+    """What of a crate is beyond its budgets."""
+    count, tests, clock = len(edits(crate, IN_GATE, clone)), sampler.seconds(crate, "tests"), sampler.clock(crate, "check")
+    if count > MOST_EDITS:
+        yield f"`{crate}` has {count} edits in the gate, above {MOST_EDITS}"
+    if clock > MOST_A_CHECK:
+        yield f"the check of `{crate}` takes {clock:.0f} seconds of the clock, above {MOST_A_CHECK}"
+    if tests > MOST_TESTS:
+        yield f"the tests of `{crate}` take {tests:.0f} seconds, above {MOST_TESTS}"
+    for kind in KINDS:
+        if sampler.memory(crate, kind) > MOST_MEMORY:
+            yield f"the prover of `{crate}` ({kind}) holds {giga(sampler.memory(crate, kind))} GB, above {giga(MOST_MEMORY)}"
+    for edit, spent in edits_of(clone, crate, sampler).items():
+        if spent > MOST_AN_EDIT:
+            yield f"the edit `{edit}` takes {spent:.0f} seconds, above {MOST_AN_EDIT}"
+
+
+def budget_of(code):
+    """Minutes of processor time for so many lines of code."""
+    return MOST_OF_FIRST + MOST_A_THOUSAND * max(0, code - FIRST_LINES) / 1000
 
 
 def whole_of(clone, sampler, wall, processor, last):
     """What the whole gate took, in sentences."""
-    crates, totals = libraries(clone), sampler.totals()
+    crates, cores = libraries(clone), len(os.sched_getaffinity(0))
     code = sum(lines_of(clone / "crates" / crate / "src", "*.rt") for crate in crates)
-    budget = min(MOST_OF_ALL, MOST_OF_FIRST + MOST_A_THOUSAND * max(0, code - FIRST_LINES) / 1000)
-    spent = {kind: sum(totals[(crate, kind)] for crate in crates) / 60 for kind in KINDS}
+    spent = {kind: sum(sampler.seconds(crate, kind) for crate in crates) / 60 for kind in KINDS}
     count = sum(len(edits(crate, IN_GATE, clone)) for crate in crates)
     beside = sum(len(edits(crate, BESIDE, clone)) for crate in crates)
     kit = subprocess.run(["rt", "version"], capture_output=True, text=True, check=True).stdout.strip()
-    again = sum(totals[(crate, "check")] for crate in crates if edits(crate, IN_GATE, clone)) / 60
+    commit = subprocess.run(["git", "rev-parse", "--short=8", "HEAD"], cwd=clone, capture_output=True, text=True, check=True).stdout.strip()
+    again = sum(sampler.seconds(crate, "check") for crate in crates if edits(crate, IN_GATE, clone)) / 60
+    of_the_clock = f" (at most {MOST_OF_THE_CLOCK[cores]})" if cores in MOST_OF_THE_CLOCK else ""
     told = (
-        f"Measured on {datetime.date.today().isoformat()} with {len(os.sched_getaffinity(0))} cores and `{kit}`: "
-        f"**{processor / 60:.0f} minutes of processor time**, {wall / 60:.0f} of the clock, `{last}`. "
-        f"The budget for {code} lines of code is {budget:.0f} minutes. The checks take {spent['check']:.0f} minutes, the tests {spent['tests']:.0f}, "
+        f"Measured on {datetime.date.today().isoformat()} of commit {commit} with {cores} cores and `{kit}`: "
+        f"**{processor / 60:.0f} minutes of processor time** (at most {budget_of(code):.0f} for {code} lines of code), {wall / 60:.0f} of the clock"
+        f"{of_the_clock}, `{last}`. The checks take {spent['check']:.0f} minutes, the tests {spent['tests']:.0f}, "
         f"the {count} edits {spent['edits']:.0f} (the crates that have one are checked once more for it, which took {again:.0f} minutes the first time), "
         f"and other processes {processor / 60 - sum(spent.values()):.0f}. {beside} more edits stand beside the gate."
     )
@@ -222,7 +277,7 @@ def measured(clone, sampler, rows, whole):
     """What was measured, as lines of docs/GATE.md."""
     found = {edit: spent for crate in libraries(clone) for edit, spent in edits_of(clone, crate, sampler).items()}
     dearest = [f"`{edit}` {spent:.0f}" for edit, spent in sorted(found.items(), key=lambda edit: -edit[1])[:10]]
-    beyond = list(beyond_budgets(clone, sampler))
+    beyond = [line for crate in libraries(clone) for line in beyond_of_crate(clone, crate, sampler)]
     return [
         *whole,
         "",
@@ -245,14 +300,12 @@ def measure(wanted, write):
     if wanted:
         narrow(clone, wanted)
     sampler, wall, processor, last = run_gate(clone)
-    totals = sampler.totals()
     shown = [crate for crate in libraries(clone) if not wanted or crate in wanted]
-    rows = [row_of(clone, crate, totals) for crate in shown]
+    rows = [row_of(clone, crate, sampler) for crate in shown]
     whole = [f"`{last}`"] if wanted else whole_of(clone, sampler, wall, processor, last)
     lines = measured(clone, sampler, rows, whole)
     print("\n".join(lines))
-    spent = sum(totals[(crate, kind)] for crate in shown for kind in KINDS) / 60
-    print(f"{spent:.1f} minutes of processor time for these crates")
+    print(f"{sum(minutes_of(sampler, crate) for crate in shown):.1f} minutes of processor time for these crates")
     if write:
         page = TOP / "docs" / "GATE.md"
         head, rest = page.read_text().split(BEGIN)

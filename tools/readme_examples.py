@@ -4,13 +4,14 @@
     python3 tools/readme_examples.py --try [CRATE ..]     # builds and runs the whole programs of these crates, or of all, unproved: half a minute each
     python3 tools/readme_examples.py --prove [CRATE ..]   # the same, proved: what is not proved below them is proved first
 
-A README of a crate with code has a section 'An example'. A block there that is a part of a file comes after a sentence that names the file under `crates`. Each
-line of the block has to stand in the file that was named last, in this order, as tools/check looks; so it is code that the gate proves.
+The README of each crate has a program that calls the crate, but for those of CALLED_BY_NOBODY and of crates of tests. The
+program is a block with a `fn main`, or, if it is too long for that, the folder `examples/callers/CRATE`, which the README names. The README has its line for
+`crates.txt`, as `caller: pdu_codec`, before the block or beside the folder's name, and behind that what it prints. A folder has what the crate `caller` has:
+`src/main.rt` and, if its proof needs them, files in `proofs`; each file has `.in` behind its name, since `rt ci` refuses code that no check reads. To try a
+program, the crates are copied to a folder of their own, with what is built of their libraries; there the program is the crate `caller`. This is beside the gate.
 
-A block with a `fn main` is a program that calls the crate. Each README has one, but for those of CALLED_BY_NOBODY and of crates of tests. The sentence before
-it has its line for `crates.txt`, as `caller: pdu_codec`, and the one behind it says what it prints. A block of antt behind that is the file of its proof that
-the sentence before names, as `crates/caller/proofs/main/Invariants.antt`. To try a program, the crates are copied to a folder of their own, with what is built
-of their libraries; there the program is the crate `caller`. This is beside the gate.
+A block without a `fn main` is a part of a file, and comes after a sentence that names the file under `crates`. Each line of the block has to stand in the file
+that was named last, in this order, as tools/check looks; so it is code that the gate proves.
 """
 import argparse
 import pathlib
@@ -25,10 +26,10 @@ from repository import libraries
 
 TOP = pathlib.Path(__file__).resolve().parent.parent
 CRATES = TOP / "crates"
+FOLDERS = TOP / "examples" / "callers"
 BLOCK = re.compile(r"```rust\n(.*?)```", re.DOTALL)
 FILE = re.compile(r"`([^`]+\.rt)`")
-LINE, PRINTS = re.compile(r"`caller:\s+([\w\s]+)`"), re.compile(r"\s*It prints `([^`]*)`")
-PROOF = re.compile(r"`crates/caller/(proofs/[^`]+)`[^`]*```antt\n(.*?)```", re.DOTALL)
+LINE, PRINTS = re.compile(r"`caller:\s+([\w\s]+)`"), re.compile(r"\sIt\s+prints\s+`([^`]*)`")
 SOURCES = ("src", "specs", "proofs")
 # Crates of definitions and of laws, which have nothing to call; the programs; and the server, whose caller can't be short.
 CALLED_BY_NOBODY = {
@@ -38,12 +39,11 @@ CALLED_BY_NOBODY = {
 
 
 class Caller(NamedTuple):
-    """A whole program: the crate whose README has it, what it stands on, its code, what it prints, and the files of its proof with their paths."""
+    """A whole program: the crate whose README has it, what it stands on, what it prints, and its files by their paths."""
     crate: str
     beneath: str
-    code: str
     printed: str
-    proofs: list
+    files: dict
 
 
 def code(text):
@@ -70,18 +70,35 @@ def blocks():
             yield readme, text, block
 
 
-def callers():
-    for readme, text, block in blocks():
+def files_in(folder):
+    """The files of a program by their paths in the crate `caller`."""
+    return {str(path.relative_to(folder).with_suffix("")): path.read_text() for path in folder.rglob("*.in")}
+
+
+def program_in(crate, text):
+    """Where the program of a README stands, the text that has its line for crates.txt next to that, and its files; None if it has none."""
+    for block in BLOCK.finditer(text):
         if "fn main(" in block.group(1):
-            behind = text[block.end():].split("\n## ")[0]
-            beneath, printed = LINE.findall(text[:block.start()]), PRINTS.match(behind)
-            if not beneath or not printed:
-                sys.exit(f"{readme.parent.name}: a program without its line for crates.txt, or what it prints")
-            yield Caller(readme.parent.name, " ".join(beneath[-1].split()), block.group(1), printed[1], PROOF.findall(behind))
+            return block.end(), text[:block.start()], {"src/main.rt": block.group(1)}
+    place = text.find(f"(../../examples/callers/{crate}/src/main.rt.in)")
+    return None if place < 0 else (place, text[place:], files_in(FOLDERS / crate))
+
+
+def callers():
+    """The whole programs, each with the files that the README has or names."""
+    for readme in sorted(CRATES.glob("*/README.md")):
+        crate, text = readme.parent.name, readme.read_text()
+        found = program_in(crate, text)
+        if found:
+            place, beside, files = found
+            beneath, printed = LINE.findall(beside), PRINTS.search(text, place)
+            if not beneath or not printed or "src/main.rt" not in files:
+                sys.exit(f"{crate}: a program without its code, its line for crates.txt, or what it prints")
+            yield Caller(crate, " ".join(beneath[-1].split()), " ".join(printed[1].split()), files)
 
 
 def faults():
-    """What is wrong with the parts of files, and which crates have no program."""
+    """What is wrong with the parts of files, which crates have no program, and which folders no README names."""
     for readme, text, block in blocks():
         if "fn main(" not in block.group(1):
             path = source(readme, text[:block.start()])
@@ -92,6 +109,9 @@ def faults():
     for crate in libraries():
         if not crate.endswith("_tests") and (crate in called) == (crate in CALLED_BY_NOBODY):
             yield f"{crate}: its README has no program that calls it" if crate not in called else f"{crate}: it is called, though CALLED_BY_NOBODY names it"
+    for folder in FOLDERS.iterdir():
+        if folder.name not in called:
+            yield f"{folder.name}: no README names its folder of examples/callers"
 
 
 def copied(folder):
@@ -106,11 +126,9 @@ def tried(folder, caller, command):
     """What is wrong with a program, if anything is."""
     crate = folder / "crates" / "caller"
     shutil.rmtree(crate, ignore_errors=True)
-    (crate / "src").mkdir(parents=True)
-    (crate / "src" / "main.rt").write_text(caller.code)
-    for path, proof in caller.proofs:
+    for path, text in caller.files.items():
         (crate / path).parent.mkdir(parents=True, exist_ok=True)
-        (crate / path).write_text(proof)
+        (crate / path).write_text(text)
     (folder / "crates.txt").write_text((TOP / "crates.txt").read_text() + f"caller: {caller.beneath}\n")
     ran = subprocess.run(["rt", command], cwd=crate, stdin=subprocess.DEVNULL, capture_output=True, text=True)
     if ran.returncode or ran.stdout != caller.printed + "\n":
@@ -134,7 +152,8 @@ def try_callers(command, names):
 
 def check():
     """How many examples there are, and what is wrong with them."""
-    return f"{len(list(blocks()))} examples, of which {len(list(callers()))} are programs", list(faults())
+    parts = sum(1 for _, _, block in blocks() if "fn main(" not in block.group(1))
+    return f"{len(list(callers()))} programs, {parts} parts of files", list(faults())
 
 
 def main():

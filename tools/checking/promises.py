@@ -1,26 +1,62 @@
-"""In what docs/PROMISES.md differs from the tree: edits that it does not name, or that are not there or in the other place, promises of whose edits the gate
-tries none, and functions that are not there.
+"""In what docs/PROMISES.md differs from the tree: edits that name no promise of it, promises whose edits are others than it lists, promises of whose edits the
+gate tries none, and functions that are not there. `tools/promises.py --write` writes the edits there.
 
-A row names its edits in its last column, those of the gate in bold, and in the one before it functions, or clauses of them as `run.chosen`, each group
-with its crate after it in parentheses. A row that begins with an arrow is a part of the promise above it.
+The first line of an edit names its promise, as `promise: admission`. That is the key with which the last column of a row begins, in italics; the edits behind
+it are written by the tool, those of the gate in bold. The column before has functions, or clauses of them as `run.chosen`, each group with its crate after it
+in parentheses. A row that begins with an arrow is a part of the promise above it.
 """
-import collections
 import re
 
 from repository import BESIDE, IN_GATE, TOP, edits, libraries, sources
 
+PAGE = TOP / "docs/PROMISES.md"
 GROUP = re.compile(r"(.*?)\(`(\w+)`\)", re.DOTALL)
 WORD = re.compile(r"`([\w:]+)(?:\.\w+)?`")
-BOLD = re.compile(r"\*\*`(\w+)`\*\*")
+KEY = re.compile(r"\*(\w+)\*")
+PROMISE = re.compile(r"promise: (\w+)\n")
 PART = "\u21b3"
 
 
-def rows():
-    """What each row promises, its functions and its edits."""
-    for line in (TOP / "docs/PROMISES.md").read_text().splitlines():
-        cells = [cell.strip() for cell in line.strip("|").split("|")]
-        if line.startswith("| ") and cells[0] != "Promise":
-            yield cells[0], cells[1], cells[2] if len(cells) == 3 else ""
+def cells_of(line):
+    """The cells of a row of the page: what it promises, its functions and, if it has some, its edits; none of another line."""
+    cells = [cell.strip() for cell in line.strip("|").split("|")]
+    return cells if line.startswith("| ") and cells[0] != "Promise" else []
+
+
+def rows(text):
+    """What each row promises, its functions, and its edits behind their key."""
+    for cells in filter(None, map(cells_of, text.splitlines())):
+        yield cells[0], cells[1], cells[2] if len(cells) == 3 else ""
+
+
+def key_of(cell):
+    found = KEY.match(cell)
+    return found[1] if found else None
+
+
+def all_edits():
+    """Each edit with the key of its promise, which is None if it names none, and whether the gate tries it."""
+    for crate in libraries():
+        for place in (IN_GATE, BESIDE):
+            for edit in edits(crate, place):
+                found = PROMISE.match(edit.read_text())
+                yield edit, found[1] if found else None, place == IN_GATE
+
+
+def column(key, found):
+    """The edits of a promise, as its row has them."""
+    mine = sorted((edit.stem, in_gate) for edit, promise, in_gate in found if promise == key)
+    return f"*{key}*: " + ", ".join(f"**`{name}`**" if in_gate else f"`{name}`" for name, in_gate in mine)
+
+
+def written(text, found):
+    """The page with the edits that the tree has."""
+    lines = text.split("\n")
+    for number, line in enumerate(lines):
+        cells = cells_of(line)
+        if len(cells) == 3 and key_of(cells[2]):
+            lines[number] = f"| {cells[0]} | {cells[1]} | {column(key_of(cells[2]), found)} |"
+    return "\n".join(lines)
 
 
 def missing_words(functions):
@@ -32,28 +68,47 @@ def missing_words(functions):
                 yield f"{crate} has no {word}"
 
 
-def untried(found):
+def strangers(found, table):
+    """Edits that name no promise, or one of which no row has the key, or whose crate the row does not name; and keys that stand twice, or have no edit."""
+    crates = {}
+    for _, functions, cell in table:
+        key = key_of(cell)
+        if key in crates and key:
+            yield f"two rows have the key {key}"
+        crates[key] = {crate for _, crate in GROUP.findall(functions)}
+    for edit, promise, _ in found:
+        if promise is None or promise not in crates:
+            yield f"{edit.relative_to(TOP)}: its first line names no promise of {PAGE.name}"
+        elif edit.parent.parent.name not in crates[promise]:
+            yield f"{edit.relative_to(TOP)}: {promise} is no promise of its crate"
+    for key in crates.keys() - {promise for _, promise, _ in found} - {None}:
+        yield f"no edit names the promise {key}"
+
+
+def untried(table, found):
     """The promises that have edits, of which the gate tries none."""
+    in_gate = {promise for _, promise, tried in found if tried}
     whole = []
-    for promise, _, named in found:
+    for promise, _, cell in table:
         if not promise.startswith(PART):
-            whole.append([promise, ""])
-        whole[-1][1] += named
-    return [promise for promise, named in whole if set(WORD.findall(named)) - set(libraries()) and not BOLD.search(named)]
+            whole.append((promise, set()))
+        whole[-1][1].add(key_of(cell))
+    return [promise for promise, keys in whole if keys - {None} and not keys & in_gate]
+
+
+def write():
+    """Writes the edits that the tree has into the page."""
+    PAGE.write_text(written(PAGE.read_text(), list(all_edits())))
 
 
 def check():
     """How many edits there are, and what is wrong with the page."""
-    crates = libraries()
-    there = {place: collections.Counter(edit.stem for crate in crates for edit in edits(crate, place)) for place in (IN_GATE, BESIDE)}
-    found = list(rows())
-    in_bold = collections.Counter(word for _, _, named in found for word in BOLD.findall(named))
-    named = collections.Counter(word for _, _, named in found for word in WORD.findall(named) if word not in crates)
-    both = there[IN_GATE] + there[BESIDE]
-    wrong = [line for _, functions, _ in found for line in missing_words(functions)]
-    wrong += [f"edit {name}: named {named[name]} times, there {both[name]} times" for name in sorted(both | named) if named[name] != both[name]]
-    in_gate = there[IN_GATE]
-    names = sorted(in_gate | in_bold)
-    wrong += [f"edit {name}: bold {in_bold[name]} times, in the gate {in_gate[name]} times" for name in names if in_bold[name] != in_gate[name]]
-    wrong += [f"no edit in the gate: {promise}" for promise in untried(found)]
-    return f"{in_gate.total()} edits in the gate, {there[BESIDE].total()} beside it", wrong
+    found, text = list(all_edits()), PAGE.read_text()
+    table = list(rows(text))
+    wrong = [line for _, functions, _ in table for line in missing_words(functions)]
+    wrong += strangers(found, table)
+    wrong += [f"no edit in the gate: {promise}" for promise in untried(table, found)]
+    if text != written(text, found):
+        wrong.append(f"{PAGE.name} lists other edits: tools/promises.py --write")
+    tried = sum(in_gate for _, _, in_gate in found)
+    return f"{tried} edits in the gate, {len(found) - tried} beside it", wrong

@@ -7,18 +7,10 @@ use Rattle.std.specs.declared.cmp.Ordering.TheVariants.{Less, Equal, Greater}
 use Rattle.std.specs.Map.{lookup, remove_entry, set_value}
 use Rattle.std.specs.BTreeMap.{insert_entry, is_at}
 use Rattle.std.proofs.lemmas.Bool.Decides.{nat_tests}
+use Rattle.script_text.proofs.Keys.{equal, is_here, not_so}
 
 pub apart : (j k : ℕ) → (j ≡ k → ⊥) → is_eq (nat_cmp k j) ≡ false
 apart j k differ = grind (arith, nat_tests)
-
-equal : (j k : ℕ) → nat_cmp j k ≡ Equal → j ≡ k
-equal j k is = grind (arith, nat_tests)
-
-is_here : (j k : ℕ) → is_eq (nat_cmp j k) ≡ true → j ≡ k
-is_here j k is = grind (arith, nat_tests, is)
-
-not_so : (j k : ℕ) → is_eq (nat_cmp j k) ≡ false → j ≡ k → ⊥
-not_so j k is here = grind (arith, nat_tests, is, here)
 
 module _ {X : Type 0} where
   abbrev pub IsNot : ℕ → ℕ × X → Type 0

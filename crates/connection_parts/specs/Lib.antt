@@ -1,4 +1,5 @@
 pub mod FrameQueues
+pub mod Outboxes
 pub mod Places
 pub mod Laws
 pub mod Fitting

@@ -1,9 +1,10 @@
 //! The frames that wait on a connection.
 
-ghost use Rattle.std.specs.Prelude.{◌≡◌, [], false, option_map, IfOk};
+ghost use Rattle.std.specs.Prelude.{◌≡◌, [], false, IfOk};
 ghost use Rattle.std.specs.List.{slice_get};
 ghost use Rattle.connection_parts.specs.FrameQueues.{after_put, after_take, can_put, cut, has_room, is_idle, shut};
 
+use crate::outbox::Frame;
 use std::alloc::{AllocError, Global};
 use std::collections::VecDeque;
 use std::marker::Model;
@@ -15,26 +16,26 @@ pub const MANY_FRAMES: usize = 32;
 
 /// Frames that wait on a connection, to be written or to be served, the oldest first; it may be shut. Room for 64 is made once.
 #[derive(Drop)]
-pub struct FrameQueue {
-    frames: VecDeque<Vec<u8>>,
+pub struct FrameQueue<F: Drop> {
+    frames: VecDeque<F>,
     is_shut: bool,
 }
 
-impl Model for FrameQueue {
-    ghost use Rattle.std.specs.Prelude.{◌≡◌, ◌≤◌, length, map};
+impl<F: Drop> Model for FrameQueue<F> {
+    ghost use Rattle.std.specs.Prelude.{◌≡◌, ◌≤◌, length};
     ghost use Rattle.std.specs.VecDeque.{deque_capacity};
     ghost use Rattle.connection_parts.specs.FrameQueues.{FrameQueue};
 
-    ghost Value = { FrameQueue };
+    ghost Value = { FrameQueue F };
 
-    ghost view = { λ queue. record { frames = map (λ frame. frame.items) queue.frames.items; is_shut = queue.is_shut } };
+    ghost view = { λ queue. record { frames = queue.frames.items; is_shut = queue.is_shut } };
 
     ghost invariant = { λ queue. (length queue.frames.items ≤ 64) × (deque_capacity queue.frames ≡ 64) };
 }
 
-impl FrameQueue {
+impl<F: Drop> FrameQueue<F> {
     /// No frame, and room for 64. It is not shut.
-    pub fn make(alloc: Global) -> Result<FrameQueue, AllocError>
+    pub fn make(alloc: Global) -> Result<FrameQueue<F>, AllocError>
         ensures frames { IfOk result (λ queue. queue.frames ≡ []) }
         ensures open { IfOk result (λ queue. queue.is_shut ≡ false) }
     {
@@ -45,9 +46,9 @@ impl FrameQueue {
     }
 
     /// Puts a frame at the end. False, and it is dropped, if the queue is shut or 64 frames wait. It takes no memory.
-    pub fn put(&mut self, frame: Vec<u8>) -> bool
+    pub fn put(&mut self, frame: F) -> bool
         ensures put { result ≡ can_put self.old }
-        ensures after { self.new ≡ after_put self.old frame.items }
+        ensures after { self.new ≡ after_put self.old frame }
     {
         if self.is_shut || self.frames.len() >= MOST_FRAMES {
             return false;
@@ -57,8 +58,8 @@ impl FrameQueue {
     }
 
     /// Takes the oldest frame; none if none waits.
-    pub fn take(&mut self) -> Option<Vec<u8>>
-        ensures oldest { option_map (λ frame. frame.items) result ≡ slice_get self.old.frames 0 }
+    pub fn take(&mut self) -> Option<F>
+        ensures oldest { result ≡ slice_get self.old.frames 0 }
         ensures others { self.new ≡ after_take self.old }
     {
         self.frames.pop_front()
@@ -98,5 +99,19 @@ impl FrameQueue {
     {
         self.shut();
         self.frames.clear();
+    }
+}
+
+impl FrameQueue<Frame> {
+    ghost use Rattle.connection_parts.specs.Outboxes.{frames_without, waits_for};
+
+    /// The deliver_sm of the attempt that was pushed with this sequence_number waits no more. Whether it did.
+    pub(crate) fn take_back(&mut self, sequence: u32) -> bool
+        ensures waited { result ≡ waits_for self.old sequence }
+        ensures after { self.new ≡ frames_without self.old sequence }
+    {
+        let waited = self.frames.iter().any(|frame| frame.is_of(sequence));
+        self.frames.retain(|frame| !frame.is_of(sequence));
+        waited
     }
 }

@@ -5,6 +5,7 @@ mod fitting;
 mod frame_queue;
 mod laws;
 mod moments;
+mod outbox;
 mod place;
 mod tally;
 
@@ -12,5 +13,6 @@ pub use fitting::without_optional;
 pub use frame_queue::{FrameQueue, MANY_FRAMES, MOST_FRAMES};
 pub use laws::only_what_was_sent_is_answered;
 pub use moments::moment_at;
+pub use outbox::{Frame, Outbox, Withdrawal};
 pub use place::{Job, Place};
 pub use tally::Tally;

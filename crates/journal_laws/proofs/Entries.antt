@@ -5,10 +5,10 @@ use Rattle.std.proofs.lemmas.List.{map-append}
 use Rattle.mc_model.specs.synod.Lists.{In}
 use Rattle.mc_parts.proofs.Membership.{in_either, in_right}
 use Rattle.node_core.specs.Found.{Found}
-use Rattle.world.specs.declared.given.Given.{Given}
-use Rattle.world.specs.declared.step.Step.{Step}
-use Rattle.world.specs.declared.step.Step.TheVariants as steps
-use Rattle.world.specs.Runs.{node_at}
+use Rattle.world_runs.specs.Given.{Given}
+use Rattle.world_runs.specs.Step.{Step}
+use Rattle.world_runs.specs.Step.TheVariants as steps
+use Rattle.world_runs.specs.Runs.{node_at}
 use Rattle.world_runs.specs.Traces.{BeginsAnew, Event, Tried, events_of}
 use Rattle.journal_laws.specs.Journals.{Done, Entry, Unfinished, answers_given, done_in, steps_done, steps_for, stop_of}
 use Rattle.journal_laws.specs.Telling.{LivesOn}

@@ -6,10 +6,10 @@ use Rattle.mc_model.specs.node.Setup.{Setup}
 use Rattle.node_model.specs.Kept.{Kept}
 use Rattle.node_model.specs.Stepped.{stepped}
 use Rattle.delivery.specs.Targets.{is_up}
-use Rattle.world.specs.Copies.{IsCopy}
-use Rattle.world.specs.Runs.{node_at}
-use Rattle.world.specs.declared.step.Step.{Step}
-use Rattle.world.specs.declared.step.Step.TheVariants as steps
+use Rattle.world_runs.specs.Copies.{IsCopy}
+use Rattle.world_runs.specs.Runs.{node_at}
+use Rattle.world_runs.specs.Step.{Step}
+use Rattle.world_runs.specs.Step.TheVariants as steps
 use Rattle.journal_laws.specs.Journals.{Done, Entry, IsOwnRun, IsOwnStep, Unfinished, ComesBy, done_in, outputs_done, steps_for, stop_of}
 use Rattle.journal_laws.specs.Likeness.{AreAllAlike, AreLike}
 

@@ -14,11 +14,11 @@ use Rattle.node_model.specs.Kept.{Kept}
 use Rattle.node_model.specs.Stepped.{stepped}
 use Rattle.node_laws.specs.Clusters.{KeptCluster, MayHappen, NodeInput, comes_to, kept_reached, step_at}
 use Rattle.node_laws.proofs.cluster.Sources.{may_until}
-use Rattle.world.specs.declared.fault.WorldFault.TheVariants as faults
-use Rattle.world.specs.declared.given.Given.{Given}
-use Rattle.world.specs.declared.step.Step.{Step}
-use Rattle.world.specs.declared.step.Step.TheVariants as steps
-use Rattle.world.specs.Runs.{Comes, IsGiven, away, node_at, or_else, refusal_of, unsent}
+use Rattle.world_runs.specs.WorldFault.TheVariants as faults
+use Rattle.world_runs.specs.Given.{Given}
+use Rattle.world_runs.specs.Step.{Step}
+use Rattle.world_runs.specs.Step.TheVariants as steps
+use Rattle.world_runs.specs.Runs.{Comes, IsGiven, away, node_at, or_else, refusal_of, unsent}
 use Rattle.world_runs.specs.Traces.{Answer, Reaches, events_of}
 use Rattle.world_runs.proofs.Events.{goes_on_by, reached_by}
 use Rattle.journal_laws.specs.Journals.{CameAsSent, ComesBy, Done, Entry, IsInRange, IsOwnRun, IsOwnStep, WereSent}

@@ -2,7 +2,7 @@
 use Rattle.std.proofs.Common.{◌≡◌, ℕ, suc, ◌+◌, refl, ap, subst, ◌∙◌, arith}
 use Rattle.mc_model.specs.synod.Acceptor.{Records, blank}
 use Rattle.node_model.specs.Outputs.{Stepped}
-use Rattle.node_runs.proofs.Running.{opened_so}
+use Rattle.world_runs.proofs.Running.{opened_so}
 use Rattle.stable_store.specs.Stored.{AreSame, Stored}
 use Rattle.node_core.specs.Nodes.{HasOpened}
 use Rattle.node_core.proofs.Restarts.{as_restarted, over_held}

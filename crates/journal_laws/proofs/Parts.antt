@@ -7,8 +7,8 @@ use Rattle.mc_model.specs.cluster.Steps.{Cluster, setup_of}
 use Rattle.mc_parts.proofs.Membership.{in_either}
 use Rattle.node_model.specs.Kept.{Kept}
 use Rattle.node_laws.specs.Clusters.{NodeInput, kept_reached}
-use Rattle.world.specs.declared.step.Step.{Step}
-use Rattle.world.specs.declared.step.Step.TheVariants as steps
+use Rattle.world_runs.specs.Step.{Step}
+use Rattle.world_runs.specs.Step.TheVariants as steps
 use Rattle.journal_laws.specs.Journals.{CameAsSent, Done, Entry, HasItsNumber, IsJournal, IsOwnRun, WereSent, done_in, entries_at, packets_sent}
 use Rattle.journal_laws.specs.OldStores.{IsJournalOver, kept_opened, openings}
 use Rattle.journal_laws.specs.Parts.{IsPart, LeadTo}

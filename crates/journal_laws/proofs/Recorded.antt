@@ -36,7 +36,7 @@ use Rattle.node_laws.specs.Clusters.{NodeInput, kept_reached, step_at}
 use Rattle.node_laws.proofs.invariant.Ticked.{keys_unrounded}
 use Rattle.node_core.specs.Listing.{ListsRecorded}
 use Rattle.node_core.proofs.Restarts.{stop_lists}
-use Rattle.node_kept.proofs.Listing.{key_put, was_recorded}
+use Rattle.node_core.proofs.Listing.{key_put, was_recorded}
 
 either : (test : Bool) (one other : Stepped) → ListsRecorded one.kept → ListsRecorded other.kept → ListsRecorded (if test then one else other).kept
 either true one other first second = first

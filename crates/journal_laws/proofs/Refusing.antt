@@ -18,8 +18,8 @@ use Rattle.desk.specs.Arrivals.{door_at, judged_as, next_id}
 use Rattle.desk.specs.declared.door.Door.{Door}
 use Rattle.desk.specs.declared.request.Request.{Request as Asked}
 use Rattle.desk.specs.declared.request.Request.TheVariants as asked
-use Rattle.world.specs.declared.step.Step.{Step}
-use Rattle.world.specs.Runs.{Comes}
+use Rattle.world_runs.specs.Step.{Step}
+use Rattle.world_runs.specs.Runs.{Comes}
 use Rattle.world_runs.proofs.Events.{ReachesBy, passed}
 use Rattle.journal_laws.specs.Journals.{Entry}
 use Rattle.journal_laws.specs.Telling.{IdsAreNotRefusedAtOnce, Names}

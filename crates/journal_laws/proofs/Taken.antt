@@ -26,8 +26,8 @@ use Rattle.node_core.specs.Steps.{input_of}
 use Rattle.node_core.specs.Stopped.{Stopped}
 use Rattle.node_core.specs.Stops.{IsTold, IsUnfinished, is_after}
 use Rattle.node_core.proofs.Restarts.{as_restarted, stop_lists, told_as}
-use Rattle.world.specs.declared.given.Given.{Given}
-use Rattle.world.specs.Runs.{IsGiven, given_out}
+use Rattle.world_runs.specs.Given.{Given}
+use Rattle.world_runs.specs.Runs.{IsGiven, given_out}
 use Rattle.journal_laws.specs.Journals.{ComesBy, IsOwnRun, IsOwnStep, Unfinished, steps_for, stop_of}
 use Rattle.journal_laws.specs.Taken.{IsReopened, done_by, packet_in, started_anew, step_of}
 use Rattle.journal_laws.proofs.OldStores.{restart_step}

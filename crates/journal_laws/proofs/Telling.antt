@@ -22,9 +22,9 @@ use Rattle.node_laws.proofs.cluster.OneReceipt.{count_both, count_of}
 use Rattle.node_laws.proofs.cluster.Sources.{may_until}
 use Rattle.delivery.specs.declared.outcome.Outcome.TheVariants as outcomes
 use Rattle.node_core.specs.Stops.{is_after}
-use Rattle.world.specs.declared.given.Given.{Given}
-use Rattle.world.specs.declared.step.Step.TheVariants as steps
-use Rattle.world.specs.Runs.{IsGiven, given_out, node_at}
+use Rattle.world_runs.specs.Given.{Given}
+use Rattle.world_runs.specs.Step.TheVariants as steps
+use Rattle.world_runs.specs.Runs.{IsGiven, given_out, node_at}
 use Rattle.world_runs.specs.Traces.{Answer, Event, Reaches, Tried, answers_in, events_of, told_in}
 use Rattle.world_runs.specs.Traces.{IsAnsweredLater as IsEventAnswered, StandsOnAnAttempt as EventsStand}
 use Rattle.world_runs.proofs.Asking.{accepted_are_known, later_queries_are_told}

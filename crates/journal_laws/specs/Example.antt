@@ -10,10 +10,10 @@ use Rattle.node_model.specs.Outputs.{nothing}
 use Rattle.node_laws.specs.Clusters.{NodeInput, cluster_with, comes_to}
 use Rattle.node_laws.specs.Examples.{first_ballot, first_slot, none_up}
 use Rattle.node_core.specs.Found.TheVariants.{After}
-use Rattle.world.specs.declared.given.Given.{Given}
-use Rattle.world.specs.declared.step.Step.{Step}
-use Rattle.world.specs.declared.step.Step.TheVariants as steps
-use Rattle.world.specs.Runs.{given_out}
+use Rattle.world_runs.specs.Given.{Given}
+use Rattle.world_runs.specs.Step.{Step}
+use Rattle.world_runs.specs.Step.TheVariants as steps
+use Rattle.world_runs.specs.Runs.{given_out}
 use Rattle.journal_laws.specs.Joining.{plainly}
 use Rattle.journal_laws.specs.Journals.{Done, Entry}
 

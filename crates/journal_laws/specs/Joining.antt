@@ -4,8 +4,8 @@ use Rattle.mc_model.specs.synod.Packet.{Packet}
 use Rattle.mc_model.specs.cluster.Steps.{Cluster}
 use Rattle.node_model.specs.Kept.{Kept}
 use Rattle.node_laws.specs.Clusters.{NodeInput, kept_reached}
-use Rattle.world.specs.declared.given.Given.{Given}
-use Rattle.world.specs.declared.step.Step.{Step}
+use Rattle.world_runs.specs.Given.{Given}
+use Rattle.world_runs.specs.Step.{Step}
 use Rattle.journal_laws.specs.Journals.{Done, Entry, IsJournal, RunsOn, answers_given, steps_done}
 
 -- Each front of a journal is one, and the rest is one from where the front leads.

@@ -18,10 +18,10 @@ use Rattle.delivery.specs.Targets.{is_up}
 use Rattle.desk.specs.Arrivals.{requested}
 use Rattle.node_core.specs.Found.{Found}
 use Rattle.node_core.specs.Stops.{is_after}
-use Rattle.world.specs.declared.given.Given.{Given}
-use Rattle.world.specs.declared.step.Step.{Step}
-use Rattle.world.specs.declared.step.Step.TheVariants as steps
-use Rattle.world.specs.Runs.{given_out, node_at}
+use Rattle.world_runs.specs.Given.{Given}
+use Rattle.world_runs.specs.Step.{Step}
+use Rattle.world_runs.specs.Step.TheVariants as steps
+use Rattle.world_runs.specs.Runs.{given_out, node_at}
 use Rattle.world_runs.specs.Traces.{Answer, Reaches}
 
 -- ---- what stands in a journal

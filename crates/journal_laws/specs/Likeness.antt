@@ -1,7 +1,7 @@
 -- Entries that are the same, in lists of their own (own).
 use Rattle.std.specs.Prelude.{◌≡◌, List, [], ◌∷◌}
-use Rattle.world.specs.Copies.{IsCopy}
-use Rattle.world.specs.Runs.{given_out}
+use Rattle.world_runs.specs.Copies.{IsCopy}
+use Rattle.world_runs.specs.Runs.{given_out}
 use Rattle.journal_laws.specs.Journals.{Done, Entry}
 
 -- The same step, by the same packet, gave out the same.

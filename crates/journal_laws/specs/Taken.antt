@@ -19,10 +19,10 @@ use Rattle.node_core.specs.Nodes.{OpensOver, Standing, records_in}
 use Rattle.node_core.specs.Outputs.{Outputs}
 use Rattle.node_core.specs.Stopped.{Stopped}
 use Rattle.node_core.specs.Stops.{IsTold, IsUnfinished}
-use Rattle.world.specs.declared.given.Given.{Given}
-use Rattle.world.specs.declared.step.Step.{Step}
-use Rattle.world.specs.declared.step.Step.TheVariants as steps
-use Rattle.world.specs.Runs.{IsGiven}
+use Rattle.world_runs.specs.Given.{Given}
+use Rattle.world_runs.specs.Step.{Step}
+use Rattle.world_runs.specs.Step.TheVariants as steps
+use Rattle.world_runs.specs.Runs.{IsGiven}
 use Rattle.journal_laws.specs.Journals.{Done, IsOwnRun, IsOwnStep, steps_for}
 
 -- ---- a step

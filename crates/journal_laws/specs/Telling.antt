@@ -15,8 +15,8 @@ use Rattle.desk.specs.declared.request.Request.{Request}
 use Rattle.desk.specs.declared.request.Request.TheVariants as asked
 use Rattle.mc_types.specs.Texts.{id_in}
 use Rattle.pdu_tables.specs.declared.status.Status.TheVariants as statuses
-use Rattle.world.specs.declared.step.Step.TheVariants as steps
-use Rattle.world.specs.Runs.{given_out, node_at}
+use Rattle.world_runs.specs.Step.TheVariants as steps
+use Rattle.world_runs.specs.Runs.{given_out, node_at}
 use Rattle.journal_laws.specs.Journals.{Entry, RunsOn, packets_sent}
 
 -- what goes out by an entry, but for its packets

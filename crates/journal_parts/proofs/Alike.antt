@@ -10,7 +10,7 @@ use Rattle.node_model.specs.Outputs.{nothing}
 use Rattle.node_model.specs.Reported.{receipt_of}
 use Rattle.node_core.specs.Outputs.{Outputs}
 use Rattle.node_core.specs.Steps.{granted_of}
-use Rattle.node_parts.specs.Copies.{AreAlike as AreSame}
+use Rattle.node_core.specs.Copies.{AreAlike as AreSame}
 use Rattle.world.specs.Runs.{given_out}
 use Rattle.journal_laws.specs.Likeness.{AreAlike, AreLike}
 use Rattle.journal_laws.specs.Taken.{given_of}

@@ -1,3 +1,7 @@
+pub use Rattle.journal_laws.proofs.Openings
+pub use Rattle.journal_laws.proofs.Parts
+pub use Rattle.journal_laws.proofs.Recorded
+pub use Rattle.journal_laws.proofs.Telling
 pub mod Alike
 pub mod Numbers
 pub mod Unsent

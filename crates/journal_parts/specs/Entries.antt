@@ -3,7 +3,7 @@ use Rattle.std.specs.Prelude.{◌≡◌, ℕ, [], map, option_map, Option, Some,
 use Rattle.std.specs.Arc.{arc_value}
 use Rattle.synod_acceptor.specs.Packets.{packet_of}
 use Rattle.node_model.specs.Outputs.{nothing}
-use Rattle.node_parts.specs.Copies.{AreAlike}
+use Rattle.node_core.specs.Copies.{AreAlike}
 use Rattle.world.specs.Copies.{IsCopy}
 use Rattle.world.specs.Runs.{IsGiven}
 use Rattle.world.specs.declared.step.Step.{Step}

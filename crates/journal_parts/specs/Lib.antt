@@ -1,4 +1,11 @@
-pub use Rattle.node_kept.specs.Granting
+pub use Rattle.node_core.specs.Granting
+pub use Rattle.journal_laws.specs.Journals
+pub use Rattle.journal_laws.specs.OldStores
+pub use Rattle.journal_laws.specs.Openings
+pub use Rattle.journal_laws.specs.Parts
+pub use Rattle.journal_laws.specs.Telling
+pub use Rattle.world.specs.Runs
+pub use Rattle.world.specs.declared.step.Step
 pub mod Refusals
 pub mod Faults
 pub mod Entries

@@ -37,3 +37,4 @@ pub use register::{MOST_ENTRIES, MOST_SEATS, Register};
 pub use seat::Seat;
 pub use slip::Slip;
 pub use synod_acceptor::Packet;
+pub use world::Step;

@@ -1,7 +1,7 @@
 //! A node and its own steps, under its lock.
 
 ghost use Rattle.std.specs.Prelude.{◌≡◌, ◌≤◌, ◌∷◌, ◌++◌, ◌||◌, [], None, Some, IfOk, IfSome, OnErr, OnOk, false, true, map, ◌<◌, ◌⊎◌, ◌↔◌, IfErr, IsErrOf, IsSome};
-ghost use Rattle.node_kept.specs.Keeping.{kept_of};
+ghost use Rattle.node_core.specs.Keeping.{kept_of};
 ghost use Rattle.node_core.specs.Nodes.{IsLifeOf, fault_in};
 ghost use Rattle.node_model.specs.Kept.{message_at};
 ghost use Rattle.node_core.specs.Input.TheVariants as inputs;

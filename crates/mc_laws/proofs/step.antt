@@ -3,5 +3,6 @@ pub mod Behind
 pub mod Decided
 pub mod OneReceipt
 pub mod Announced
+pub mod Receiving
 pub mod Assembly
 pub mod Openings

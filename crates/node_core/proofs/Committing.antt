@@ -1,6 +1,6 @@
 -- What a node keeps once a step is saved.
 use Rattle.std.proofs.Common.{◌≡◌, suc, true, false, map, subst, ◌∙◌}
-use Rattle.node_parts.specs.declared.input.Input.{Input}
+use Rattle.node_kept.specs.Input.{Input}
 use Rattle.node_kept.specs.declared.kept.Kept.{Kept as Holding}
 use Rattle.node_kept.specs.declared.step.Next.{Next}
 use Rattle.node_kept.specs.declared.step.Step.{Step}

@@ -1,3 +1,6 @@
+pub use Rattle.node_kept.proofs.MessageShelfSendSync
+pub use Rattle.node_kept.proofs.stopped.Stopped.TheSendSync as StoppedSendSync
+pub use Rattle.node_kept.proofs.Listing
 pub mod Opening
 pub mod Unsaved
 pub mod Saves

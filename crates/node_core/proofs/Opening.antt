@@ -8,7 +8,7 @@ use Rattle.mc_model.specs.node.Setup.{Setup}
 use Rattle.node_model.specs.Message.{unseen}
 use Rattle.node_model.specs.Stepped.{opened_over}
 use Rattle.synod_acceptor.specs.Records.{record_at}
-use Rattle.node_parts.specs.declared.message.Message.{Message as Filed}
+use Rattle.node_kept.specs.Message.{Message as Filed}
 use Rattle.node_kept.specs.declared.kept.Kept.{Kept}
 use Rattle.node_kept.specs.Keeping.{AreUnseen, IsOpen, acceptor_in, filed_as}
 use Rattle.node_kept.proofs.Listing.{listed_in}

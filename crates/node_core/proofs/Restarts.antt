@@ -18,8 +18,8 @@ use Rattle.shelf.proofs.Entries.{still_ascends}
 use Rattle.stable_store.specs.Stored.{AreSame, Stored}
 use Rattle.synod_acceptor.specs.Packets.{packet_of}
 use Rattle.synod_acceptor.specs.declared.packet.Packet.{Packet as Sent}
-use Rattle.node_parts.specs.declared.input.Input.{Input}
-use Rattle.node_parts.specs.declared.input.Input.TheVariants as given
+use Rattle.node_kept.specs.Input.{Input}
+use Rattle.node_kept.specs.Input.TheVariants as given
 use Rattle.node_kept.specs.declared.kept.Kept.{Kept as Holding}
 use Rattle.node_kept.specs.declared.stopped.Found.{Found}
 use Rattle.node_kept.specs.declared.stopped.Found.TheVariants.{After, Before}

@@ -9,9 +9,9 @@ use Rattle.mc_model.specs.synod.Acceptor.{Records}
 use Rattle.node_model.specs.Kept.{Held}
 use Rattle.synod_acceptor.specs.declared.packet.Packet.{Packet as Sent}
 use Rattle.synod_acceptor.specs.declared.record.Change.{Change}
-use Rattle.node_parts.specs.declared.input.Input.{Input}
-use Rattle.node_parts.specs.declared.message.Message.{Message as Filed}
-use Rattle.node_parts.specs.Messages.{changed_by}
+use Rattle.node_kept.specs.Input.{Input}
+use Rattle.node_kept.specs.Message.{Message as Filed}
+use Rattle.node_kept.specs.Messages.{changed_by}
 use Rattle.node_kept.specs.declared.kept.Kept.{Kept as Holding}
 use Rattle.node_kept.specs.declared.step.Step.{Step}
 use Rattle.node_kept.specs.Keeping.{AreOf, AreOwn, records_of}

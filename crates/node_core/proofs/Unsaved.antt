@@ -23,9 +23,9 @@ use Rattle.synod_acceptor.proofs.Slots.{is_same}
 use Rattle.synod_acceptor.specs.Votes.{record_of, slot_recorded}
 use Rattle.synod_acceptor.specs.declared.packet.Packet.{Packet as Sent}
 use Rattle.synod_acceptor.specs.declared.record.Change.{Change}
-use Rattle.node_parts.specs.declared.input.Input.{Input}
-use Rattle.node_parts.specs.declared.input.Input.TheVariants as given
-use Rattle.node_parts.specs.Messages.{changed_by}
+use Rattle.node_kept.specs.Input.{Input}
+use Rattle.node_kept.specs.Input.TheVariants as given
+use Rattle.node_kept.specs.Messages.{changed_by}
 use Rattle.node_kept.specs.declared.kept.Kept.{Kept as Holding}
 use Rattle.node_kept.specs.declared.step.Step.{Step}
 use Rattle.node_kept.specs.Keeping.{kept_of, records_of}

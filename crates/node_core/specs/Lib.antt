@@ -1,7 +1,7 @@
-pub use Rattle.node_parts.specs.Attempting
-pub use Rattle.node_parts.specs.declared.fault.StepFault
-pub use Rattle.node_parts.specs.declared.input.Input
-pub use Rattle.node_parts.specs.declared.outputs.Outputs
+pub use Rattle.node_kept.specs.Attempting
+pub use Rattle.node_kept.specs.StepFault
+pub use Rattle.node_kept.specs.Input
+pub use Rattle.node_kept.specs.Outputs
 pub use Rattle.node_kept.specs.Keeping
 pub use Rattle.node_kept.specs.Listing
 pub use Rattle.node_kept.specs.Setups
@@ -9,6 +9,9 @@ pub use Rattle.node_kept.specs.Steps
 pub use Rattle.node_kept.specs.declared.kept.Kept
 pub use Rattle.node_kept.specs.declared.stopped.Found
 pub use Rattle.node_kept.specs.declared.stopped.Stopped
+pub use Rattle.node_kept.specs.Copies
+pub use Rattle.node_kept.specs.Granting
+pub use Rattle.node_kept.specs.contracts.kept.Kept as ContractsKept
 pub mod Pendings
 pub mod Stops
 pub mod Nodes

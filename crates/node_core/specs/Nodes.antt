@@ -14,12 +14,12 @@ use Rattle.stable_store.specs.declared.fault.StoreFault.TheVariants as faults
 use Rattle.synod_acceptor.specs.Packets.{packet_of}
 use Rattle.synod_acceptor.specs.declared.packet.Packet.{Packet}
 use Rattle.synod_acceptor.specs.declared.record.Change.{Change}
-use Rattle.node_parts.specs.declared.fault.StepFault.{StepFault}
-use Rattle.node_parts.specs.declared.fault.StepFault.TheVariants.{Broken}
-use Rattle.node_parts.specs.declared.input.Input.{Input}
-use Rattle.node_parts.specs.declared.input.Input.TheVariants as given
-use Rattle.node_parts.specs.declared.outputs.Outputs.{Outputs}
-use Rattle.node_parts.specs.Messages.{changed_by}
+use Rattle.node_kept.specs.StepFault.{StepFault}
+use Rattle.node_kept.specs.StepFault.TheVariants.{Broken}
+use Rattle.node_kept.specs.Input.{Input}
+use Rattle.node_kept.specs.Input.TheVariants as given
+use Rattle.node_kept.specs.Outputs.{Outputs}
+use Rattle.node_kept.specs.Messages.{changed_by}
 use Rattle.node_kept.specs.declared.kept.Kept.{Kept}
 use Rattle.node_kept.specs.declared.stopped.Stopped.{Stopped}
 use Rattle.node_kept.specs.Keeping.{AreOwn, kept_of, records_of}

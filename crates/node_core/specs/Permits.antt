@@ -2,11 +2,11 @@
 use Rattle.std.specs.Prelude.{◌≡◌, ℕ, Bool, ◌==◌, ◌&&◌, Option, Some, None, if◌then◌else◌}
 use Rattle.mc_model.specs.synod.Packet.{Slot}
 use Rattle.delivery.specs.declared.outcome.Outcome.{Outcome}
-use Rattle.node_parts.specs.declared.fault.StepFault.{StepFault}
-use Rattle.node_parts.specs.declared.fault.StepFault.TheVariants.{Broken, Device, Grant, Memory, NotGranted, StrangeLife}
-use Rattle.node_parts.specs.declared.input.Input.{Input}
-use Rattle.node_parts.specs.declared.input.Input.TheVariants as given
-use Rattle.node_parts.specs.declared.outputs.Outputs.{Outputs}
+use Rattle.node_kept.specs.StepFault.{StepFault}
+use Rattle.node_kept.specs.StepFault.TheVariants.{Broken, Device, Grant, Memory, NotGranted, StrangeLife}
+use Rattle.node_kept.specs.Input.{Input}
+use Rattle.node_kept.specs.Input.TheVariants as given
+use Rattle.node_kept.specs.Outputs.{Outputs}
 use Rattle.node_core.specs.declared.life.Life.{Life}
 use Rattle.node_core.specs.Nodes.{HasTaken, Standing, fault_in}
 

@@ -9,8 +9,8 @@ use Rattle.stable_store.specs.Stored.{AreSame, Listed, Stored, stored_in}
 use Rattle.synod_acceptor.specs.Packets.{packet_of}
 use Rattle.synod_acceptor.specs.Records.{record_at}
 use Rattle.synod_acceptor.specs.declared.packet.Packet.{Packet}
-use Rattle.node_parts.specs.declared.input.Input.{Input}
-use Rattle.node_parts.specs.declared.input.Input.TheVariants as given
+use Rattle.node_kept.specs.Input.{Input}
+use Rattle.node_kept.specs.Input.TheVariants as given
 use Rattle.node_kept.specs.declared.kept.Kept.{Kept as Holding}
 use Rattle.node_kept.specs.declared.stopped.Stopped.{Stopped}
 use Rattle.node_kept.specs.Keeping.{kept_of}

@@ -15,8 +15,7 @@ pub use laws::{
 };
 pub use life::Life;
 pub use node::Node;
-pub use node_kept::{Found, Setup, Stopped};
-pub use node_parts::{GrantRefusal, Input, Outputs, StepFault, sender};
+pub use node_kept::{Found, GrantRefusal, Input, Outputs, Setup, StepFault, Stopped, sender};
 pub use open::open_node;
 pub use pending::Pending;
 pub use permit::Permit;

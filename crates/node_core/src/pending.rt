@@ -5,8 +5,7 @@ ghost use Rattle.node_model.specs.Stepped.{stepped};
 ghost use Rattle.node_kept.specs.Keeping.{kept_of};
 ghost use Rattle.node_kept.specs.Steps.{input_of, outputs_of};
 
-use node_kept::{Kept, Step};
-use node_parts::{Input, Outputs};
+use node_kept::{Input, Kept, Outputs, Step};
 use std::marker::Model;
 use std::snapshot::Snapshot;
 use synod_acceptor::Packet;

@@ -2,8 +2,8 @@
 
 ghost use Rattle.std.specs.Prelude.{◌≡◌, ◌↔◌, false, true, None, Some, IfErr, IfOk, IsErrOf, IsSome, OnErr, OnOk};
 ghost use Rattle.delivery.specs.declared.outcome.Outcome.{Outcome as OutcomeValue};
-ghost use Rattle.node_parts.specs.declared.fault.StepFault.TheVariants.{Memory};
-ghost use Rattle.node_parts.specs.declared.input.Input.TheVariants as given;
+ghost use Rattle.node_kept.specs.StepFault.TheVariants.{Memory};
+ghost use Rattle.node_kept.specs.Input.TheVariants as given;
 ghost use Rattle.node_model.specs.Granted.{known_slot};
 ghost use Rattle.node_kept.specs.Keeping.{kept_of};
 ghost use Rattle.node_kept.specs.Steps.{IsFault, outputs_of};
@@ -16,7 +16,7 @@ use crate::pending::Pending;
 use crate::permit::Permit;
 use delivery::Outcome;
 use mc_types::{MsgId, Slot};
-use node_parts::{Input, Outputs, StepFault};
+use node_kept::{Input, Outputs, StepFault};
 use stable_store::StableStore;
 
 impl<S: StableStore> Node<S> {

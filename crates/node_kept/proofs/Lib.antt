@@ -1,3 +1,4 @@
+pub use Rattle.node_parts.proofs.message_shelf.MessageShelf.TheSendSync as MessageShelfSendSync
 pub mod Entries
 pub mod Putting
 pub mod Queueing

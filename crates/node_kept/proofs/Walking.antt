@@ -22,6 +22,7 @@ use Rattle.node_parts.specs.declared.message.Message.{Message as Filed}
 use Rattle.tick_rules.specs.declared.standpoint.Standpoint.{Standpoint}
 use Rattle.node_parts.specs.Living.{AreRising, IsNextBy}
 use Rattle.node_parts.specs.Sleeping.{IsAsleep}
+use Rattle.node_parts.proofs.Dropping.{at_itself}
 use Rattle.node_parts.proofs.Rising.{each, in_put, put_in, rise_of, rise_put}
 use Rattle.node_kept.specs.declared.kept.Kept.{Kept as Holding}
 use Rattle.node_kept.specs.declared.walk.Walk.{Walk}
@@ -59,9 +60,6 @@ all_stay from (x ∷ xs) all =
 pub from_on : (low from : ℕ) (xs : List ℕ) → from ≤ suc low → AllByRecursion (λ (y : ℕ). low < y) xs → AllByRecursion (λ (y : ℕ). from ≤ y) xs
 from_on low from [] below all = tt
 from_on low from (x ∷ xs) below all = (let above = all.0 in omega (arith, above, below), from_on low from xs below all.1)
-
-at_itself : (id : ℕ) → is_at (nat_cmp id) id ≡ true
-at_itself id = let same : nat_cmp id id ≡ Equal = grind (arith, nat_tests) in rw same refl
 
 pub from_nothing : (xs : List ℕ) → filter (nat_le 0) xs ≡ xs
 from_nothing xs = all_stay 0 xs (all_numbers xs)

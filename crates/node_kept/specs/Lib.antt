@@ -1,6 +1,13 @@
 pub use Rattle.desk.specs.Admissions
 pub use Rattle.desk.specs.Arrivals
 pub use Rattle.waiting_requests.specs.Waiting
+pub use Rattle.node_parts.specs.Attempting
+pub use Rattle.node_parts.specs.Messages
+pub use Rattle.node_parts.specs.declared.fault.StepFault
+pub use Rattle.node_parts.specs.declared.input.Input
+pub use Rattle.node_parts.specs.declared.message.Message
+pub use Rattle.node_parts.specs.declared.outputs.Outputs
+pub use Rattle.node_parts.specs.Copies
 pub mod Setups
 pub mod Queueing
 pub mod Deleting

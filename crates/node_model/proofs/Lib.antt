@@ -4,6 +4,7 @@ pub mod Told
 pub mod Heard
 pub mod Places
 pub mod Filters
+pub mod Ascending
 pub mod Recorded
 pub mod Keys
 pub mod Stops

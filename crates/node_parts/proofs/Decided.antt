@@ -20,6 +20,7 @@ use Rattle.node_model.specs.Rules.{shown_to, taken_for, tried, undelivered}
 use Rattle.node_model.specs.Starts.{announced, delete_of, follow, is_idle, start_behind}
 use Rattle.waiting_requests.specs.Numbers.{ids_in}
 use Rattle.tick_rules.specs.declared.standpoint.Standpoint.{Standpoint}
+use Rattle.tick_rules.proofs.Waiting.{nothing_either}
 use Rattle.synod_acceptor.specs.Records.{record_at}
 use Rattle.node_parts.specs.declared.message.Message.{Message as Filed}
 use Rattle.node_parts.specs.Living.{is_decided, is_known_over, is_last}
@@ -45,10 +46,6 @@ none_shown id (h ∷ others) top unasked = rw (apart id h others unasked) (none_
 
 -- ---- a final state is known
 
-none_then : (test : Bool) → if_so test None ≡ None
-none_then true = refl
-none_then false = refl
-
 -- behind a fate of which no receipt is asked, or that is told
 module _ (setup : Setup) (k : Kept) (id : ℕ) (newest : Decree) (older : List Decree) (taken : Submission) where
   -- no rule fits such a newest decree
@@ -72,7 +69,7 @@ module _ (setup : Setup) (k : Kept) (id : ℕ) (newest : Decree) (older : List D
         option_or (fitting Delete (none_deleted (taken_in (newest ∷ older)) i))
         (option_or (fitting Expire (none_expires i))
         (option_or (fitting Undeliver (over.undelivers i))
-        (option_or (fitting Try ((ap (if_so up) over.tried_again ∙ none_then up) i))
+        (option_or (fitting Try ((ap (if_so up) over.tried_again ∙ nothing_either up) i))
         (fitting Announce (over.untold i)))))
 
     own_none : (up : List ℕ → Bool) → own_rule setup k up id newest older (Some taken) ≡ None

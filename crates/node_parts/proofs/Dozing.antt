@@ -1,7 +1,7 @@
 -- What is noted of the messages that are listed, as messages are put, changed and looked at.
 use Rattle.std.proofs.Common.{◌≡◌, ◌⊎◌, ℕ, Bool, true, false, List, map, ◌<◌, Option, Some, None, refl, sym, ap, subst, ◌∙◌, inl, inr, arith}
 use Rattle.std.specs.Prelude.{◌==◌, ◌||◌, filter, is_some, not, if◌then◌else◌}
-use Rattle.std.proofs.lemmas.Bool.{cases_Bool, eq-eqb, true≢false}
+use Rattle.std.proofs.lemmas.Bool.{cases_Bool, eq-eqb, or_right, true≢false}
 use Rattle.std.proofs.lemmas.Bool.Decides.{Decides-eqb, nat_tests}
 use Rattle.mc_model.specs.synod.Lists.{In}
 use Rattle.node_model.proofs.Places.{elsewhere, here}
@@ -164,14 +164,10 @@ left_rested entries live room listed =
                 let lives : is_live there.0.id (value_at (map rested_entry entries) there.0.id) ≡ true =
                 subst (λ (key : ℕ). is_live key (value_at (map rested_entry entries) key) ≡ true) (sym there.2) (ap (is_live id) found ∙ ap not differs) in
                 new (subst (λ (key : ℕ). In key (ids_of (filter test live))) there.2
-                (listings.id_in there.0 (filter test live) (stays_listed test live there.0 there.1 (or_live (is_some there.0.until) _ lives)))))
+                (listings.id_in there.0 (filter test live) (stays_listed test live there.0 there.1 (or_right (is_some there.0.until) _ lives)))))
           ];
       fits = then_listed.fits;
     }
-  where
-    or_live : (one other : Bool) → other ≡ true → (one || other) ≡ true
-    or_live true other is = refl
-    or_live false other is = is
 
 -- ---- each that is due is looked at
 

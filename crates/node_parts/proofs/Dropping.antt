@@ -104,7 +104,7 @@ run_later entries n ns run = by_value (value_at entries n) refl
 unchanged : (m : Filed) → m.proposer.round ≡ None → rested m ≡ m
 unchanged m rests = λ i. record m { proposer = record m.proposer { round = sym rests i } }
 
-at_itself : (id : ℕ) → is_at (nat_cmp id) id ≡ true
+pub at_itself : (id : ℕ) → is_at (nat_cmp id) id ≡ true
 at_itself id = let same : nat_cmp id id ≡ Equal = grind (arith, nat_tests) in rw same refl
 
 all_rest : (entries : List (ℕ × Filed)) → AreRising (keys_of entries) → ((id : ℕ) (m : Filed) → value_at entries id ≡ Some m → m.proposer.round ≡ None) →

@@ -29,7 +29,7 @@ rises (x ∷ xs) (suc one) (suc other) d rise lower within = rises xs one other 
 
 -- ---- where an id stands, or would go
 
-tail_cut : (x : ℕ) (xs : List ℕ) (id place : ℕ) → IsCut (x ∷ xs) id (suc place) → IsCut xs id place
+pub tail_cut : (x : ℕ) (xs : List ℕ) (id place : ℕ) → IsCut (x ∷ xs) id (suc place) → IsCut xs id place
 tail_cut x xs id place cut = record {
   within = let w = cut.within in omega (arith, w);
   before = λ other d lower. cut.before (suc other) d (omega (arith, lower));

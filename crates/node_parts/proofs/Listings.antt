@@ -15,7 +15,7 @@ use Rattle.shelf.proofs.Visited.{changed_length, changed_to, next_is, one_more}
 use Rattle.node_parts.specs.declared.listing.Listing.{Listing}
 use Rattle.node_parts.specs.Living.{AreRising, IsCut, IsPlaceOf}
 use Rattle.node_parts.specs.Sleeping.{IsDueIn, ids_of, is_due}
-use Rattle.node_parts.proofs.IdLists.{searched}
+use Rattle.node_parts.proofs.IdLists.{searched, tail_cut}
 use Rattle.node_parts.proofs.Rising.{each}
 
 -- ---- their ids
@@ -174,13 +174,6 @@ woken_between live place id rise at =
     woken live (insert live place x) x refl (subst AreRising (sym (put_between live place id at)) rise) (insert_in live place x) (in_insert live place x)
 
 -- ---- those that are due
-
-tail_cut : (x : ℕ) (xs : List ℕ) (id place : ℕ) → IsCut (x ∷ xs) id (suc place) → IsCut xs id place
-tail_cut x xs id place cut = record {
-  within = let w = cut.within in omega (arith, w);
-  before = λ other d lower. cut.before (suc other) d (omega (arith, lower));
-  behind = λ other d from within. cut.behind (suc other) d (omega (arith, from)) (omega (arith, within));
-}
 
 next_cut : (x : ℕ) (xs : List ℕ) (id : ℕ) → IsCut (x ∷ xs) id zero → IsCut xs id zero
 next_cut x xs id cut = record {

@@ -5,9 +5,10 @@ use Rattle.std.specs.Prelude.{◌==◌, ◌||◌, filter, is_some, if◌then◌e
 use Rattle.std.specs.BTreeSet.{insert_key}
 use Rattle.std.specs.Option.{is_none}
 use Rattle.std.specs.Ordering.{nat_cmp}
-use Rattle.std.proofs.lemmas.Bool.{cases_Bool, eq-eqb, true≢false}
+use Rattle.std.proofs.lemmas.Bool.{cases_Bool, eq-eqb, or_right, true≢false}
 use Rattle.std.proofs.lemmas.Bool.Decides.{Decides-eqb, nat_tests}
 use Rattle.mc_model.specs.synod.Lists.{In}
+use Rattle.node_model.proofs.Filters.{filter_passes}
 use Rattle.node_parts.specs.declared.listing.Listing.{Listing}
 use Rattle.node_parts.specs.declared.message.Message.{Message as Filed}
 use Rattle.node_parts.specs.Living.{AreRising, is_kept_listed, is_live_in}
@@ -18,15 +19,6 @@ use Rattle.node_parts.proofs.Listings.{AreWoken, id_in, mapped_from, mapped_ids,
 use Rattle.node_parts.proofs.Rising.{each, in_put, put_in, rise_put}
 
 -- ---- what stays of a list
-
-pub passes : {A : Type 0} (test : A → Bool) (xs : List A) (x : A) → In x (filter test xs) → test x ≡ true
-passes test [] x none = absurd none
-passes test (y ∷ ys) x among = by_test (test y) refl among (passes test ys x)
-  where
-    by_test : (is : Bool) → test y ≡ is → In x (cond is (y ∷ filter test ys) (filter test ys)) → (In x (filter test ys) → test x ≡ true) → test x ≡ true
-    by_test true at (inl same) rest = ap test same ∙ at
-    by_test true at (inr later) rest = rest later
-    by_test false at later rest = rest later
 
 shorter : {A : Type 0} (test : A → Bool) (xs : List A) → length (filter test xs) ≤ length xs
 shorter test [] = omega arith
@@ -91,22 +83,18 @@ module _ (until : ℕ) (live : List Listing) (ids : List ℕ) (are : AreAwake un
 
 -- ---- those that are decided are taken off
 
-or_live : (one other : Bool) → other ≡ true → (one || other) ≡ true
-or_live true other is = refl
-or_live false other is = is
-
 module _ (entries : List (ℕ × Filed)) (until : ℕ) (live : List Listing) (ids : List ℕ) (are : AreAwake until live ids) where
   pub awake_left : AreAwake until (filter (is_kept_listed entries) live) (filter (is_live_in entries) ids)
   awake_left = record {
     rising = rise_still (is_live_in entries) ids are.rising;
     listed = λ id among.
         let there = with_id id live (are.listed id (was_in (is_live_in entries) ids id among)) in
-        let lives : is_live_in entries there.0.id ≡ true = ap (is_live_in entries) there.2 ∙ passes (is_live_in entries) ids id among in
+        let lives : is_live_in entries there.0.id ≡ true = ap (is_live_in entries) there.2 ∙ filter_passes (is_live_in entries) ids id among in
         subst (λ (n : ℕ). In n (ids_of (filter (is_kept_listed entries) live))) there.2
         (id_in there.0 (filter (is_kept_listed entries) live)
-        (stays_listed (is_kept_listed entries) live there.0 there.1 (or_live (is_some there.0.until) (is_live_in entries there.0.id) lives)));
+        (stays_listed (is_kept_listed entries) live there.0 there.1 (or_right (is_some there.0.until) (is_live_in entries there.0.id) lives)));
     each = λ l among awake.
-        let kept : is_kept_listed entries l ≡ true = passes (is_kept_listed entries) live l among in
+        let kept : is_kept_listed entries l ≡ true = filter_passes (is_kept_listed entries) live l among in
         let lives : is_live_in entries l.id ≡ true = sym (ap (λ (u : Option ℕ). is_some u || is_live_in entries l.id) awake) ∙ kept in
         stays_in (is_live_in entries) ids l.id (are.each l (was_listed (is_kept_listed entries) live l among) awake) lives;
     others = λ l moment among sleeps. are.others l moment (was_listed (is_kept_listed entries) live l among) sleeps;
@@ -120,7 +108,7 @@ none_left_out entries live ids are most =
   where
     by_until : (l : Listing) → In l live → (moment : Option ℕ) → l.until ≡ moment → is_kept_listed entries l ≡ true
     by_until l among None awake =
-        or_live (is_some l.until) (is_live_in entries l.id) (all_pass (is_live_in entries) ids most l.id (are l among awake))
+        or_right (is_some l.until) (is_live_in entries l.id) (all_pass (is_live_in entries) ids most l.id (are l among awake))
     by_until l among (Some moment) sleeps = ap (λ (u : Option ℕ). is_some u || is_live_in entries l.id) sleeps
 
 -- ---- those of some ids are looked at

@@ -5,9 +5,9 @@ use Rattle.mc_model.specs.cluster.Steps.{Cluster}
 use Rattle.node_laws.specs.Clusters.{NodeInput}
 use Rattle.node_model.specs.Kept.{Kept}
 use Rattle.stable_store.specs.Stored.{Stored}
-use Rattle.journal_laws.specs.Journals.{IsJournal}
-use Rattle.journal_laws.specs.Parts.{LeadTo}
-use Rattle.journal_laws.proofs.Parts.{journal_of_part}
+use Rattle.journal_parts.specs.Journals.{IsJournal}
+use Rattle.journal_parts.specs.Parts.{LeadTo}
+use Rattle.journal_parts.proofs.Parts.{journal_of_part}
 use Rattle.journal_parts.specs.Closing.{AreSure, Closed, IsClosed, entries_in}
 use Rattle.journal_parts.specs.Numbers.{HaveNumbers, Numbers}
 

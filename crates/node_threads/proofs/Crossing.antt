@@ -7,7 +7,7 @@ use Rattle.std.specs.contracts.option.Option as Option
 use Rattle.std.specs.declared.sync.ledger.Ledger as Ledger
 use Rattle.stable_store.specs.declared.store.StableStore as Store
 use Rattle.synod_acceptor.proofs.packet.Packet.TheSendSync as packet
-use Rattle.node_kept.proofs.stopped.Stopped.TheSendSync as stopped
+use Rattle.node_core.proofs.StoppedSendSync as stopped
 use Rattle.node_core.specs.contracts.node.Node as Node
 use Rattle.node_core.specs.contracts.node.Node.TheInside as NodeFields
 use Rattle.journal_parts.specs.declared.begins.Begins as Begins
@@ -98,20 +98,8 @@ module _ (S : RattleType) (s : Store.Ghosts S.Denot) where
       ),
     ))
 
-    rooms_send : IsSend S → IsSend (Rooms.the_row S L s l k)
-    rooms_send store = declared_send (Rooms.the_type S L s l k) (Vec-send _ (member_send store), (Vec-send _ (post_send store), tt))
-
     rooms_sync : IsSync S → IsSync (Rooms.the_row S L s l k)
     rooms_sync store = declared_sync (Rooms.the_type S L s l k) (Vec-sync _ (member_sync store), (Vec-sync _ (post_sync store), tt))
-
-    pub cluster_send : IsSend S → IsSend (Cluster.the_row S L s l k)
-    cluster_send store = declared_send (Cluster.the_type S L s l k) (
-      search sendable depth 20,
-      (
-        Vec-send _ (search (crosses, member_send store)),
-        (search (crosses, register.the_send), (rooms_send store, tt)),
-      ),
-    )
 
     pub cluster_sync : IsSend S → IsSync S → IsSync (Cluster.the_row S L s l k)
     cluster_sync store shared = declared_sync (Cluster.the_type S L s l k) (

@@ -10,8 +10,8 @@ use Rattle.waiting_requests.specs.contracts.taken.Taken as Taken
 use Rattle.waiting_requests.specs.contracts.request.Request as Request
 use Rattle.waiting_requests.specs.contracts.held.Held as Held
 use Rattle.waiting_requests.specs.contracts.queue.Queue as Queue
-use Rattle.node_parts.proofs.message_shelf.MessageShelf.TheSendSync as shelf
-use Rattle.node_kept.specs.contracts.kept.Kept as Kept
+use Rattle.node_core.proofs.MessageShelfSendSync as shelf
+use Rattle.node_core.specs.ContractsKept as Kept
 
 taken_send : IsSend Taken.the_row
 taken_send = search (sendable, crosses, chain.the_send) depth 30

@@ -1,3 +1,4 @@
+pub use Rattle.node_core.proofs.life.Life.TheSendSync as LifeSendSync
 pub mod Behind
 pub mod Refused
 pub mod Openings

@@ -17,10 +17,10 @@ use Rattle.node_core.specs.Keeping.{kept_of}
 use Rattle.node_core.specs.Listing.{ListsRecorded}
 use Rattle.node_core.specs.Nodes.{OpensOver, Standing}
 use Rattle.node_core.specs.Setups.{setup_with}
-use Rattle.journal_laws.specs.OldStores.{kept_opened}
-use Rattle.journal_laws.specs.Openings.{IsAsLeft}
-use Rattle.journal_laws.proofs.Openings.{IsSettled, keeps_as_left, keeps_as_new}
-use Rattle.journal_laws.proofs.Recorded.{lists_reached}
+use Rattle.journal_parts.specs.OldStores.{kept_opened}
+use Rattle.journal_parts.specs.Openings.{IsAsLeft}
+use Rattle.journal_parts.proofs.Openings.{IsSettled, keeps_as_left, keeps_as_new}
+use Rattle.journal_parts.proofs.Recorded.{lists_reached}
 use Rattle.journal_parts.proofs.GoingOn.{place_in, there_is}
 use Rattle.node_threads.specs.Actions.{AllBegin}
 use Rattle.node_threads.specs.Defaults.{Defaults}

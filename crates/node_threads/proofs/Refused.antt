@@ -2,7 +2,7 @@
 use Rattle.std.proofs.Common.{◌≡◌, ◌⊎◌, ◌||◌, Bool, true, false, Option, subst, inl, inr}
 use Rattle.node_core.specs.Nodes.{Standing}
 use Rattle.node_core.specs.StepFault.{StepFault}
-use Rattle.world.specs.declared.step.Step.{Step}
+use Rattle.journal_parts.specs.Step.{Step}
 use Rattle.journal_parts.specs.Faults.{IsCopied, fault_at}
 use Rattle.journal_parts.specs.Refusals.{IsRefusedAs}
 use Rattle.journal_parts.specs.declared.refusal.Refusal.{Refusal}

@@ -6,8 +6,8 @@ use Rattle.node_model.specs.Kept.{Kept}
 use Rattle.node_core.specs.Nodes.{Standing}
 use Rattle.stable_store.specs.Stored.{Stored}
 use Rattle.journal_parts.specs.Members.{IsBeginning, IsMember, Posted}
-use Rattle.world.specs.declared.step.Step.{Step}
-use Rattle.world.specs.declared.step.Step.TheVariants as steps
+use Rattle.journal_parts.specs.Step.{Step}
+use Rattle.journal_parts.specs.Step.TheVariants as steps
 use Rattle.node_threads.specs.declared.action.Action.{Action}
 use Rattle.node_threads.specs.declared.action.Action.TheVariants as actions
 

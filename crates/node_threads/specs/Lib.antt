@@ -6,7 +6,8 @@ pub use Rattle.journal_parts.specs.Granting
 pub use Rattle.journal_parts.specs.Numbers
 pub use Rattle.journal_parts.specs.Slips
 pub use Rattle.journal_parts.specs.declared.refusal.Refusal
-pub use Rattle.world.specs.declared.step.Step
+pub use Rattle.journal_parts.specs.Step
+pub use Rattle.node_core.specs.declared.life.Life
 pub mod Actions
 pub mod Defaults
 pub mod Openings

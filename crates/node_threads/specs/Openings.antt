@@ -14,8 +14,8 @@ use Rattle.node_core.specs.declared.life.Life.{Life}
 use Rattle.node_core.specs.Keeping.{kept_of}
 use Rattle.node_core.specs.Nodes.{FailsToOpen, OpensOver, Standing}
 use Rattle.node_core.specs.Setups.{setup_with}
-use Rattle.journal_laws.specs.OldStores.{kept_opened}
-use Rattle.journal_laws.specs.Openings.{IsAsLeft, IsNew}
+use Rattle.journal_parts.specs.OldStores.{kept_opened}
+use Rattle.journal_parts.specs.Openings.{IsAsLeft, IsNew}
 use Rattle.node_threads.specs.Actions.{AllBegin}
 use Rattle.node_threads.specs.Defaults.{Defaults}
 use Rattle.node_threads.specs.declared.start_fault.StartFault.{StartFault}

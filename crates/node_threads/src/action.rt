@@ -3,13 +3,13 @@
 ghost use Rattle.std.specs.Prelude.{◌≡◌};
 ghost use Rattle.journal_parts.specs.Faults.{IsCopied};
 ghost use Rattle.journal_parts.specs.Members.{IsAct};
-ghost use Rattle.world.specs.Runs.{node_at};
+ghost use Rattle.journal_parts.specs.Runs.{node_at};
 ghost use Rattle.node_threads.specs.Actions.{step_of};
 
 use desk::Request;
+use journal_parts::Step;
 use mc_types::{Moment, NodeNo};
 use pdu_codec::SystemId;
-use world::Step;
 
 /// What is handed in to a node, but for what is done in a life of it: a packet, a request, a tick.
 #[derive(Drop)]

@@ -2,7 +2,7 @@
 
 ghost use Rattle.std.specs.Prelude.{◌≡◌, [], IfErr, IfOk, length};
 ghost use Rattle.node_laws.specs.Clusters.{kept_reached};
-ghost use Rattle.journal_laws.specs.Telling.{
+ghost use Rattle.journal_parts.specs.Telling.{
   AcceptedAreKnown,
   AreChosen,
   DeliveriesStand,

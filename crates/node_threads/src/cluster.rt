@@ -2,7 +2,7 @@
 
 ghost use Rattle.std.specs.Prelude.{◌≡◌, ◌≤◌, ◌∷◌, ◌++◌, [], IfErr, IfOk, IfSome, OnErr, length, ◌⊎◌, ◌<◌, IsErrOf, IsSome};
 ghost use Rattle.std.specs.Vec.{vec_capacity, vec_len};
-ghost use Rattle.world.specs.declared.step.Step.TheVariants as steps;
+ghost use Rattle.journal_parts.specs.Step.TheVariants as steps;
 ghost use Rattle.journal_parts.specs.Entries.{number_by};
 ghost use Rattle.journal_parts.specs.Numbers.{none_sent};
 ghost use Rattle.journal_parts.specs.declared.refusal.Refusal.TheVariants.{Broken, Damaged, Device, Full, Memory};
@@ -14,7 +14,7 @@ use crate::action::Action;
 use crate::permitting::{Answer, admitted, conclude, granted, node_of, started};
 use crate::taking::take;
 use delivery::Outcome;
-use journal_parts::{Begins, Member, Post, Refusal, Register, Seat, Slip};
+use journal_parts::{Begins, Member, Post, Refusal, Register, Seat, Slip, Step};
 use mc_types::{MsgId, NodeNo};
 use node_core::{Life, Node, Permit};
 use stable_store::StableStore;
@@ -22,7 +22,6 @@ use std::alloc::{AllocError, Global};
 use std::collections::VecDeque;
 use std::sync::ledger::Blank;
 use std::sync::{Mutex, Wait};
-use world::Step;
 
 /// One to nine nodes of a cluster, each under a lock of its own, and the journal of their steps under another. A node's lock is taken first, and the journal's
 /// for a moment then; none is held while another node works.

@@ -9,17 +9,18 @@ ghost use Rattle.journal_parts.specs.Members.{IsAct, packet_halted};
 ghost use Rattle.journal_parts.specs.Refusals.{IsRefusedAs};
 ghost use Rattle.journal_parts.specs.declared.refusal.Refusal.TheVariants.{Broken, Damaged, Device, Full, Memory, NotGranted, Spent, StrangeLife};
 ghost use Rattle.node_threads.specs.Refusing.{HandsBack, IsNoGrant};
-ghost use Rattle.journal_laws.specs.Journals.{IsInRange};
-ghost use Rattle.world.specs.Runs.{node_at};
-ghost use Rattle.world.specs.declared.step.Step.TheVariants as steps;
+ghost use Rattle.journal_parts.specs.Journals.{IsInRange};
+ghost use Rattle.journal_parts.specs.Runs.{node_at};
+ghost use Rattle.journal_parts.specs.Step.TheVariants as steps;
 
 use delivery::Outcome;
-use journal_parts::{Anew, Begins, EntryCopies, Member, Ready, Refusal, Register, Seat, Slip};
+use journal_parts::{
+    Anew, Begins, EntryCopies, Member, Ready, Refusal, Register, Seat, Slip, Step,
+};
 use mc_types::{MsgId, NodeNo, Slot};
 use node_core::{Life, Permit};
 use stable_store::StableStore;
 use std::sync::{Mutex, Wait};
-use world::Step;
 
 /// Claims room for the entry of a step by which no packet comes. Full, or else Broken, which comes only if the node takes no step.
 pub(crate) fn admitted<S: StableStore, L: Begins, R: Wait>(

@@ -6,12 +6,11 @@ ghost use Rattle.journal_parts.specs.Faults.{IsCopied, fault_at};
 ghost use Rattle.journal_parts.specs.Members.{CanBeTaken, IsAct};
 ghost use Rattle.journal_parts.specs.Refusals.{IsRefusedAs};
 ghost use Rattle.journal_parts.specs.declared.refusal.Refusal.TheVariants.{Broken, Device, Full, Memory, NoSuchPacket};
-ghost use Rattle.world.specs.Runs.{node_at};
+ghost use Rattle.journal_parts.specs.Runs.{node_at};
 
-use journal_parts::{Begins, EntryCopies, Member, Packet, Refusal, Register, Seat, Slip};
+use journal_parts::{Begins, EntryCopies, Member, Packet, Refusal, Register, Seat, Slip, Step};
 use stable_store::StableStore;
 use std::sync::{Mutex, Wait};
-use world::Step;
 
 /// Takes a step of a node whose lock is held, and enters it in the journal. The journal's lock is held twice, but not while the step is prepared and saved. An
 /// `Err` adds no slip; a claim on the journal is given back then. Of several refusals the one with the lowest number is told first, but Memory last: Full,

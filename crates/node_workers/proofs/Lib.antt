@@ -1,1 +1,3 @@
+pub use Rattle.node_threads.proofs.LifeSendSync
+pub use Rattle.node_threads.proofs.Crossing
 pub mod Behind

@@ -1,1 +1,9 @@
+pub use Rattle.node_threads.specs.Actions
+pub use Rattle.node_threads.specs.Begins
+pub use Rattle.node_threads.specs.Closing
+pub use Rattle.node_threads.specs.Defaults
+pub use Rattle.node_threads.specs.GoingOn
+pub use Rattle.node_threads.specs.Histories
+pub use Rattle.node_threads.specs.Numbers
+pub use Rattle.node_threads.specs.Openings
 pub mod Attempts

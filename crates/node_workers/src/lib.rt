@@ -10,4 +10,8 @@ mod working;
 pub use attempting::{Heard, tried};
 pub use hinting::hint;
 pub use home::Home;
+pub use node_threads::{
+    Action, Attempt, Begins, Cluster, Defaults, Journal, Life, MOST_SEATS, Node, Outputs, Packet,
+    Refusal, Seat, Slip, StartFault, closed_journals_go_on, open_nodes, opened_nodes_begin,
+};
 pub use working::worker;

@@ -9,8 +9,8 @@ use Rattle.std.proofs.lemmas.Option.{slice_get_past, slice_get_within}
 use Rattle.mc_model.specs.synod.Packet.{Packet}
 use Rattle.mc_model.specs.node.Input.{Delivery, Input}
 use Rattle.mc_model.specs.node.Outputs.{HasNumber}
-use Rattle.node_core.specs.Found.{Found}
-use Rattle.node_core.specs.Stops.{is_after}
+use Rattle.world.specs.Found.{Found}
+use Rattle.world.specs.Stops.{is_after}
 use Rattle.node_laws.specs.Clusters.{KeptCluster, NodeInput, comes_to as cluster_comes, kept_reached}
 use Rattle.node_model.specs.Kept.{Kept}
 use Rattle.node_model.specs.Reported.{receipt_of}

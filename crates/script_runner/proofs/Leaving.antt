@@ -5,8 +5,8 @@ use Rattle.std.specs.declared.alloc.AllocError.{AllocError}
 use Rattle.std.proofs.lemmas.List.{append-nil}
 use Rattle.mc_model.specs.synod.Packet.{Packet}
 use Rattle.mc_model.specs.node.Input.{Crash, Input, Restart}
-use Rattle.node_core.specs.Found.{Found}
-use Rattle.node_core.specs.Stops.{is_after}
+use Rattle.world.specs.Found.{Found}
+use Rattle.world.specs.Stops.{is_after}
 use Rattle.node_laws.specs.Clusters.{KeptCluster, comes_to as cluster_comes, kept_reached}
 use Rattle.node_model.specs.Kept.{Kept}
 use Rattle.world.specs.Runs.{IsFault, Leads, absent, last_incarnation as world_last, or_else, spent}

@@ -3,7 +3,7 @@
 ghost use Rattle.std.specs.Prelude.{◌≡◌, ℕ, ◌==◌, ◌&&◌, ◌<◌, ◌≤◌, false, length, not, reverse, suc, IfErr, OnOk, IfOk};
 ghost use Rattle.std.specs.List.{range_with_len};
 ghost use Rattle.mc_types.specs.Nodes.{has};
-ghost use Rattle.node_core.specs.Stops.{is_after};
+ghost use Rattle.world.specs.Stops.{is_after};
 ghost use Rattle.script_lines.specs.Said.{nodes_with};
 ghost use Rattle.script_runner.specs.Arrivals.{came_in};
 ghost use Rattle.script_runner.specs.Centres.{AreEmpty, Does, IsDue, IsLacking, IsPassed, IsPlaceUp, KeepsUp, StartsAs, declines};
@@ -15,10 +15,9 @@ ghost use Rattle.world.specs.Scenes.{is_up_in};
 use crate::arrivals::Arrivals;
 use config::Config;
 use mc_types::{MOST_NODES, Moment, MsgId, NodeNo, NodeSet};
-use node_core::{Found, sender};
 use script_site::{Site, write_declined, write_unsettled};
 use std::alloc::{AllocError, Global};
-use world::{Given, World, WorldFault};
+use world::{Found, Given, World, WorldFault, sender};
 
 /// How many packets a settle delivers at most.
 const MOST_DELIVERIES: u32 = 100_000;

@@ -9,11 +9,11 @@ ghost use Rattle.script_runner.specs.Outcome.{IsAct, IsOutcome, IsStarted, IsSte
 use crate::centre::Centre;
 use crate::fault::ScriptFault;
 use config::Config;
-use node_core::Found;
 use octet_io::{CountedReader, CountedWriter};
 use script_lines::{Found as FoundLine, Line, LineBuffer, lines_are_read, read_line, spelled_so};
 use std::alloc::{AllocError, Global};
 use std::io::{Read, Write};
+use world::Found;
 
 /// A line of a script, its line feed taken off, and its number, from 1 on.
 #[derive(Clone, Copy)]

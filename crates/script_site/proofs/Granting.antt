@@ -13,8 +13,8 @@ use Rattle.node_model.specs.Attempts.{grant_refusal}
 use Rattle.node_model.specs.Granted.{known_slot}
 use Rattle.delivery.specs.Deliveries.{EndsInAttempt}
 use Rattle.fate_chain.specs.declared.chain.Chain.{Chain}
-use Rattle.node_core.specs.Attempting.{refusal_of}
-use Rattle.node_core.specs.Steps.{granted_of}
+use Rattle.world.specs.Attempting.{refusal_of}
+use Rattle.world.specs.Steps.{granted_of}
 use Rattle.mc_model.specs.node.Outputs.{Outputs}
 use Rattle.world.specs.Runs.{Leads}
 use Rattle.world.specs.Scenes.{Scene}

@@ -12,8 +12,8 @@ use Rattle.node_model.specs.Kept.{Kept, message_at}
 use Rattle.node_laws.specs.Clusters.{KeptCluster, kept_reached}
 use Rattle.delivery.specs.Deliveries.{EndsInAttempt, IsAttempt}
 use Rattle.fate_chain.specs.declared.chain.Chain.{Chain}
-use Rattle.node_core.specs.Attempting.{reason_of, refusal_of as refusal_of_reason}
-use Rattle.node_core.specs.Steps.{IsKnown}
+use Rattle.world.specs.Attempting.{reason_of, refusal_of as refusal_of_reason}
+use Rattle.world.specs.Steps.{IsKnown}
 use Rattle.world.specs.Runs.{IsFault, Leads, away, or_else}
 use Rattle.world.specs.Scenes.{Scene}
 use Rattle.world.specs.declared.fault.WorldFault.{WorldFault}

@@ -1,3 +1,4 @@
+pub mod Keys
 pub mod Going
 pub mod Joining
 pub mod Example

@@ -1,6 +1,6 @@
 -- With what the nodes of a server begin (own).
 use Rattle.config.specs.declared.config.Config.{Config}
-use Rattle.node_threads.specs.Defaults.{Defaults}
+use Rattle.server.specs.Defaults.{Defaults}
 
 -- what they go by if a message does not say it, as the configuration says
 abbrev pub defaults_in : Config → Defaults

@@ -2,13 +2,13 @@
 
 ghost use Rattle.std.specs.Prelude.{◌≡◌, IfOk};
 ghost use Rattle.node_stores.specs.Stores.{kept_in};
-ghost use Rattle.node_threads.specs.Actions.{AllBegin};
-ghost use Rattle.node_threads.specs.Openings.{cluster_of, kept_at};
+ghost use Rattle.server.specs.Actions.{AllBegin};
+ghost use Rattle.server.specs.Openings.{cluster_of, kept_at};
 
 use crate::fault::ServeFault;
 use config::{Config, NodeConfig, Own, read_config, read_own};
 use node_stores::NodeStore;
-use node_threads::{Defaults, Life, Node, StartFault, open_nodes, opened_nodes_begin};
+use server::{Defaults, Life, Node, StartFault, open_nodes, opened_nodes_begin};
 use std::alloc::Global;
 use std::fs;
 use std::net::{Net, SocketAddr, TcpListener, TcpStream};

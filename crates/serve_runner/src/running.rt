@@ -1,8 +1,8 @@
 //! A server from its configuration to its end.
 
 ghost use Rattle.std.specs.Prelude.{◌≡◌};
-ghost use Rattle.node_threads.specs.Actions.{AllBegin};
-ghost use Rattle.node_threads.specs.Openings.{cluster_of, kept_at};
+ghost use Rattle.server.specs.Actions.{AllBegin};
+ghost use Rattle.server.specs.Openings.{cluster_of, kept_at};
 ghost use Rattle.serve_runner.specs.Beginnings.{defaults_in};
 
 use crate::asked::Options;
@@ -10,8 +10,9 @@ use crate::fault::ServeFault;
 use crate::opening::{Configured, listen_all, open_all, open_stores, read_file};
 use config::{Config, NodeConfig};
 use node_stores::NodeStore;
-use node_threads::{Defaults, Life, MOST_SEATS};
-use server::{Beginning, Doors, Ending, Served, Settings, VisibleText, serve};
+use server::{
+    Beginning, Defaults, Doors, Ending, Life, MOST_SEATS, Served, Settings, VisibleText, serve,
+};
 use std::alloc::{AllocError, Global};
 use std::marker::Brand;
 use std::net::{Net, TcpListener, TcpStream};

@@ -4,10 +4,10 @@ use Rattle.std.specs.Prelude.{IfSome}
 use Rattle.mc_model.specs.cluster.Steps.{Cluster}
 use Rattle.node_model.specs.Kept.{Kept}
 use Rattle.stable_store.specs.Stored.{Stored}
-use Rattle.node_threads.specs.Closing.{Closed, IsClosed}
-use Rattle.node_threads.specs.GoingOn.{AreSound, kept_in, numbers_behind}
-use Rattle.node_threads.specs.Numbers.{Numbers}
-use Rattle.node_threads.specs.Histories.{ClosesParts}
+use Rattle.node_workers.specs.Closing.{Closed, IsClosed}
+use Rattle.node_workers.specs.GoingOn.{AreSound, kept_in, numbers_behind}
+use Rattle.node_workers.specs.Numbers.{Numbers}
+use Rattle.node_workers.specs.Histories.{ClosesParts}
 
 module _ {S : Type 0} (stored : S → Stored) (cluster : Cluster) (kept : ℕ → Kept) (numbers : Numbers) where
   -- it is closed behind some parts

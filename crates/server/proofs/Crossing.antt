@@ -6,9 +6,9 @@ use Rattle.std.proofs.Crossing.{crosses}
 use Rattle.std.proofs.alloc.Global.TheSendSync as heap
 use Rattle.std.specs.declared.sync.ledger.Ledger as Ledger
 use Rattle.stable_store.specs.declared.store.StableStore as Store
-use Rattle.node_core.proofs.life.Life.TheSendSync as life
-use Rattle.node_threads.specs.Begins as Begins
-use Rattle.node_threads.proofs.Crossing.{cluster_sync}
+use Rattle.node_workers.proofs.LifeSendSync as life
+use Rattle.node_workers.specs.Begins as Begins
+use Rattle.node_workers.proofs.Crossing.{cluster_sync}
 use Rattle.server.proofs.connection.Connection.TheSendSync as connection
 use Rattle.server.proofs.house.House.TheSendSync as house
 use Rattle.server.proofs.seat_pool.SeatPool.TheSendSync as pool

@@ -6,7 +6,7 @@ use crate::inbox::Next;
 use crate::notice::{Notice, Reason};
 use crate::shift::Shift;
 use crate::starting::{Arrival, start_workers};
-use node_threads::{Begins, Seat};
+use node_workers::{Begins, Seat};
 use stable_store::StableStore;
 use std::rt::Clock;
 use std::sync::{Arc, Wait};

@@ -21,6 +21,11 @@ impl Berth {
         }
     }
 
+    /// Whether a delivery can be given to the worker of the place.
+    pub(crate) fn is_free<R: Wait>(&self, rt: &R) -> bool {
+        self.place.lock(rt).is_free()
+    }
+
     /// Gives a delivery to the worker of the place, if it is free; whether it is given.
     pub(crate) fn give<R: Wait>(&self, rt: &R, job: Job) -> bool {
         let is_given = self.place.lock(rt).give(job);

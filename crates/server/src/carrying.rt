@@ -5,7 +5,7 @@ use crate::shift::Shift;
 use crate::station::Wake;
 use crate::trouble::Trouble;
 use mc_types::MsgId;
-use node_threads::{Action, Begins, Packet, Seat, Slip};
+use node_workers::{Action, Begins, Packet, Seat, Slip};
 use stable_store::StableStore;
 use std::sync::Wait;
 use std::sync::atomic::Ordering;

@@ -3,7 +3,7 @@
 use crate::berth::Berth;
 use crate::inbox::{Inbox, Next};
 use crate::notice::Reason;
-use connection_parts::{FrameQueue, Job};
+use connection_parts::{Frame, Job, Outbox, Withdrawal};
 use octet_io::CountedWriter;
 use std::alloc::{AllocError, Global};
 use std::net::{Shutdown, TcpStream};
@@ -33,7 +33,7 @@ pub(crate) struct Connection {
     pub(crate) stream: TcpStream,
     inbox: Mutex<Inbox>,
     came: Condvar,
-    outbox: Mutex<FrameQueue>,
+    outbox: Mutex<Outbox>,
     changed: Condvar,
     /// Whether nothing is written any more.
     is_through: AtomicBool,
@@ -62,7 +62,7 @@ impl Connection {
             stream,
             inbox: Mutex::new(Inbox::make(alloc)?),
             came: Condvar::new(),
-            outbox: Mutex::new(FrameQueue::make(alloc)?),
+            outbox: Mutex::new(Outbox::make(alloc)?),
             changed: Condvar::new(),
             is_through: AtomicBool::new(false),
             berths,
@@ -115,7 +115,41 @@ impl Connection {
     // What goes out.
 
     /// The octets of a PDU are to go out, behind those that wait. If too many wait, the connection is lost.
-    pub(crate) fn post<R: Wait>(&self, rt: &R, frame: Vec<u8>) {
+    pub(crate) fn post<R: Wait>(&self, rt: &R, octets: Vec<u8>) {
+        self.put(
+            rt,
+            Frame {
+                octets,
+                attempt: None,
+            },
+        );
+    }
+
+    /// The octets of the deliver_sm of an attempt, which was pushed with this sequence_number, are to go out, as those of another PDU. They may be
+    /// taken back.
+    pub(crate) fn post_attempt<R: Wait>(&self, rt: &R, sequence: u32, octets: Vec<u8>) {
+        self.put(
+            rt,
+            Frame {
+                octets,
+                attempt: Some(sequence),
+            },
+        );
+    }
+
+    /// The deliver_sm of an attempt that is given up does not go out any more: it is taken back if it waits. If it is being written, the connection is lost: who
+    /// takes nothing for so long gets no more of it. Whether it was taken back.
+    pub(crate) fn take_back<R: Wait>(&self, rt: &R, sequence: u32) -> bool {
+        let withdrawal = self.outbox.lock(rt).take_back(sequence);
+        self.changed.notify_all();
+        if withdrawal == Withdrawal::UnderWay {
+            self.lose(rt);
+        }
+        withdrawal == Withdrawal::Withdrawn
+    }
+
+    /// A frame is to go out, behind those that wait. If too many wait, the connection is lost.
+    fn put<R: Wait>(&self, rt: &R, frame: Frame) {
         let (is_put, is_shut) = {
             let mut outbox = self.outbox.lock(rt);
             (outbox.put(frame), outbox.is_shut())
@@ -143,7 +177,7 @@ impl Connection {
             let Some(frame) = self.next_frame(rt) else {
                 break;
             };
-            if writer.write_all(&frame).is_err() {
+            if writer.write_all(&frame.octets).is_err() {
                 self.lose(rt);
             }
         }
@@ -168,9 +202,10 @@ impl Connection {
         self.lose(rt);
     }
 
-    /// The next PDU to be written, for which it waits; none once nothing is to come any more.
-    fn next_frame<R: Wait>(&self, rt: &R) -> Option<Vec<u8>> {
-        let outbox = self.outbox.lock(rt);
+    /// The next PDU to be written, for which it waits; none once nothing is to come any more. The one before it is written.
+    fn next_frame<R: Wait>(&self, rt: &R) -> Option<Frame> {
+        let mut outbox = self.outbox.lock(rt);
+        outbox.written();
         let mut outbox = self
             .changed
             .wait_while(rt, outbox, |outbox| outbox.is_idle());
@@ -242,9 +277,14 @@ impl Connection {
         }
     }
 
-    /// Gives a delivery to a worker that is free: its place. None if no one is.
-    pub(crate) fn give<R: Wait>(&self, rt: &R, job: Job) -> Option<usize> {
-        self.berths.iter().position(|berth| berth.give(rt, job))
+    /// The place of a worker that is free; none if no one is.
+    pub(crate) fn free_place<R: Wait>(&self, rt: &R) -> Option<usize> {
+        self.berths.iter().position(|berth| berth.is_free(rt))
+    }
+
+    /// Gives a delivery to the worker of a place, if it is free; whether it is given.
+    pub(crate) fn give<R: Wait>(&self, rt: &R, place: usize, job: Job) -> bool {
+        self.berth(place).is_some_and(|berth| berth.give(rt, job))
     }
 
     /// The next delivery for the worker of a place of this number; it waits for one. None if the place is shut, or the worker is to rest.

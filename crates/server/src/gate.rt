@@ -14,10 +14,12 @@ pub(crate) struct BerthGate<'a> {
     pub(crate) alloc: Global,
     pub(crate) connection: &'a Connection,
     pub(crate) berth: &'a Berth,
+    /// The sequence_number with which it was pushed.
+    pub(crate) sequence: u32,
     pub(crate) knows_optional: bool,
     /// Whether the text is too long for a short_message.
     pub(crate) long: bool,
-    /// Whether the deliver_sm was to go out.
+    /// Whether the deliver_sm was to go out, and was not taken back.
     pub(crate) is_sent: bool,
 }
 
@@ -41,8 +43,10 @@ impl<R: Wait> Gate<R> for BerthGate<'_> {
         if !self.berth.send(rt) {
             return None;
         }
-        self.is_sent = true;
-        self.connection.post(rt, frame);
-        self.berth.answered(rt)
+        self.connection.post_attempt(rt, self.sequence, frame);
+        let answer = self.berth.answered(rt);
+        // What is not answered fails the attempt: its deliver_sm must not go out behind that.
+        self.is_sent = answer.is_some() || !self.connection.take_back(rt, self.sequence);
+        answer
     }
 }

@@ -6,7 +6,7 @@ use crate::site::Site;
 use crate::trouble::Trouble;
 use desk::Request;
 use esme_service::{Asked, Heard};
-use node_threads::{Action, Begins, Seat};
+use node_workers::{Action, Begins, Seat};
 use pdu_tables::Status;
 use sessions::{Outgoing, Requested, Response};
 use stable_store::StableStore;
@@ -200,7 +200,9 @@ fn handed_in<S: StableStore, L: Begins, R: Wait + Eprint>(
     site.service.wait(number, asked, outputs.ticket);
     if asked.requested == Requested::SubmitSm {
         site.tally.submits = site.tally.submits.saturating_add(1);
-        shift.station.count_serial();
+        if outputs.ticket.is_some() {
+            shift.station.count_serial();
+        }
     }
     Ok(outputs.refused)
 }

@@ -8,7 +8,7 @@ use crate::station::{Station, Wake};
 use config::{Config, Own};
 use connection_parts::Tally;
 use mc_types::NodeNo;
-use node_threads::Slip;
+use node_workers::Slip;
 use std::alloc::Global;
 use std::rt::Clock;
 use std::sync::atomic::{AtomicBool, AtomicU64, Ordering};

@@ -18,7 +18,7 @@ pub(crate) enum Next {
 /// What came on a connection and waits to be served: PDUs, and why nothing more comes, once that is so.
 #[derive(Drop)]
 pub(crate) struct Inbox {
-    frames: FrameQueue,
+    frames: FrameQueue<Vec<u8>>,
     end: Option<Reason>,
 }
 

@@ -31,5 +31,8 @@ mod trouble;
 mod working;
 
 pub use ending::Ending;
+pub use node_workers::{
+    Defaults, Life, MOST_SEATS, Node, StartFault, open_nodes, opened_nodes_begin,
+};
 pub use notice::VisibleText;
 pub use serving::{Beginning, Doors, Served, Settings, serve};

@@ -7,7 +7,7 @@ use crate::starting::{start_attendant, start_packets, start_ticks};
 use crate::station::{Station, Wake};
 use crate::ticking::tick_first;
 use mc_types::MsgId;
-use node_threads::{Begins, Life, Refusal};
+use node_workers::{Begins, Life, Refusal};
 use stable_store::StableStore;
 use std::rt::Clock;
 use std::sync::Wait;
@@ -211,7 +211,7 @@ fn begin_anew<S: StableStore, L: Begins, R: Wait + Eprint + Clock>(
         ),
     );
     if let Ok(id) = MsgId::make(station.node, incarnation, 1) {
-        let _ = station.site.lock(rt).refuse_waiting(rt, id);
+        station.site.lock(rt).refuse_waiting(rt, id);
     }
     station.serials.store(0, Ordering::SeqCst);
     station.has_ticked.store(false, Ordering::SeqCst);

@@ -1,9 +1,9 @@
 //! A server in one part of its journal after another.
 
 ghost use Rattle.std.specs.Prelude.{◌≡◌, ℕ, IfSome, false};
-ghost use Rattle.node_threads.specs.Closing.{IsClosed};
-ghost use Rattle.node_threads.specs.GoingOn.{AreSound, GoesOn};
-ghost use Rattle.node_threads.specs.Histories.{ClosesParts};
+ghost use Rattle.node_workers.specs.Closing.{IsClosed};
+ghost use Rattle.node_workers.specs.GoingOn.{AreSound, GoesOn};
+ghost use Rattle.node_workers.specs.Histories.{ClosesParts};
 
 use crate::ending::Ending;
 use crate::house::House;
@@ -12,7 +12,7 @@ use crate::serving::Served;
 use crate::shared::Shared;
 use crate::starting::start_nodes;
 use crate::ticking::milliseconds;
-use node_threads::{Begins, Cluster, Journal, MOST_SEATS, Seat, closed_journals_go_on};
+use node_workers::{Begins, Cluster, Journal, MOST_SEATS, Seat, closed_journals_go_on};
 use stable_store::StableStore;
 use std::marker::Brand;
 use std::rt::Clock;

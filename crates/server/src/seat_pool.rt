@@ -1,6 +1,6 @@
 //! The seats of the server's threads.
 
-use node_threads::{Begins, Cluster, Seat};
+use node_workers::{Begins, Cluster, Seat};
 use stable_store::StableStore;
 use std::alloc::Global;
 use std::sync::{Mutex, Wait};

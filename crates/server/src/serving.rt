@@ -1,9 +1,9 @@
 //! The server over its nodes.
 
 ghost use Rattle.std.specs.Prelude.{◌≡◌, ℕ, length, IfOk, IfSome};
-ghost use Rattle.node_threads.specs.Numbers.{none_sent};
-ghost use Rattle.node_threads.specs.Actions.{AllBegin};
-ghost use Rattle.node_threads.specs.Histories.{ClosesParts};
+ghost use Rattle.node_workers.specs.Numbers.{none_sent};
+ghost use Rattle.node_workers.specs.Actions.{AllBegin};
+ghost use Rattle.node_workers.specs.Histories.{ClosesParts};
 
 use crate::ending::{End, Ending};
 use crate::house::{Counters, House};
@@ -18,7 +18,7 @@ use crate::ticking::now;
 use config::{Config, Own};
 use crossbeam_channel::unbounded;
 use mc_types::NodeNo;
-use node_threads::{Begins, Cluster, Journal, Life, Node};
+use node_workers::{Begins, Cluster, Journal, Life, Node};
 use stable_store::StableStore;
 use std::alloc::{AllocError, Global};
 use std::collections::VecDeque;

@@ -2,7 +2,7 @@
 
 use crate::house::House;
 use crate::seat_pool::SeatPool;
-use node_threads::{Begins, Cluster};
+use node_workers::{Begins, Cluster};
 use stable_store::StableStore;
 use std::sync::Arc;
 

@@ -7,7 +7,7 @@ use crate::site::Site;
 use crate::station::Station;
 use crate::trouble::Trouble;
 use mc_types::{MsgId, NodeNo};
-use node_threads::{Begins, Life, Seat};
+use node_workers::{Begins, Life, Seat};
 use stable_store::StableStore;
 use std::sync::Wait;
 

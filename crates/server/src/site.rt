@@ -10,7 +10,7 @@ use connection_parts::{Job, Tally};
 use esme_service::{Sending, Service};
 use fate_chain::Chain;
 use mc_types::{Moment, MsgId, Slot};
-use node_threads::{Attempt, Outputs};
+use node_workers::{Attempt, Outputs};
 use pdu_codec::{Pdu, SystemId};
 use sessions::{Delivery, Outgoing, Pushed};
 use std::alloc::{AllocError, Global};
@@ -133,28 +133,35 @@ impl Site {
         Ok(())
     }
 
-    /// What a step of the node gave out goes out: replies, and then receipts. An `Err` is want of memory.
+    /// What a step of the node gave out goes out: replies, and then receipts. An `Err` is want of memory: whose reply then does not go out has lost its
+    /// connection.
     pub(crate) fn tell<R: Wait>(&mut self, rt: &R, outputs: &Outputs) -> Result<(), AllocError> {
         if outputs.replies.is_empty() && outputs.receipts.is_empty() {
             return Ok(());
         }
+        let Ok(told) = outputs.copy() else {
+            self.lose_all(rt);
+            return Err(AllocError);
+        };
         let Outputs {
             replies,
             receipts,
             ..
-        } = outputs.copy()?;
-        self.reply_all(rt, replies)?;
+        } = told;
+        for reply in replies {
+            self.reply(rt, reply);
+        }
         self.report_all(rt, receipts)
     }
 
-    fn reply_all<R: Wait>(&mut self, rt: &R, replies: Vec<Reply>) -> Result<(), AllocError> {
-        for reply in replies {
-            self.tally.fates = self.tally.fates.saturating_add(final_states(&reply));
-            if let Some(sending) = self.service.reply(reply) {
-                self.send(rt, &sending)?;
-            }
+    /// A reply goes out on the session that holds its ticket. That is lost if there is no memory for it.
+    fn reply<R: Wait>(&mut self, rt: &R, reply: Reply) {
+        self.tally.fates = self.tally.fates.saturating_add(final_states(&reply));
+        if let Some(sending) = self.service.reply(reply)
+            && self.send(rt, &sending).is_err()
+        {
+            self.lose(rt, sending.number());
         }
-        Ok(())
     }
 
     fn report_all<R: Wait>(&mut self, rt: &R, chains: Vec<Chain>) -> Result<(), AllocError> {
@@ -258,20 +265,31 @@ impl Site {
         else {
             return Ok(());
         };
-        let Some(connection) = self.connections.get(&pushed.number) else {
+        let is_given = self.give(rt, Job { slot, pushed, long });
+        if !matches!(is_given, Ok(true)) {
             self.service.take_back(pushed.number, pushed.sequence);
-            return Ok(());
+        }
+        is_given.map(|_| ())
+    }
+
+    /// Gives a delivery to a worker of its session that is free; whether one is. It is noted first, so that its answer finds it. An `Err` is want of memory, and
+    /// nothing is given.
+    fn give<R: Wait>(&mut self, rt: &R, job: Job) -> Result<bool, AllocError> {
+        let number = job.pushed.number;
+        let Some(connection) = self.connections.get(&number) else {
+            return Ok(false);
         };
-        let Some(place) = connection.give(rt, Job { slot, pushed, long }) else {
-            self.service.take_back(pushed.number, pushed.sequence);
-            return Ok(());
+        let Some(place) = connection.free_place(rt) else {
+            return Ok(false);
         };
-        let carriage = Carriage {
-            number: pushed.number,
-            place,
-        };
-        let _ = self.carried.insert(key_of(slot), carriage)?;
-        Ok(())
+        let _ = self
+            .carried
+            .insert(key_of(job.slot), Carriage { number, place })?;
+        let is_given = connection.give(rt, place, job);
+        if !is_given {
+            let _ = self.carried.remove(&key_of(job.slot));
+        }
+        Ok(is_given)
     }
 
     /// Whether some session of an account may receive and knows optional parameters.
@@ -415,30 +433,39 @@ impl Site {
         self.connections.len()
     }
 
-    /// The requests that wait get no answer of the node any more, since it starts anew: they are answered 0x08. An `Err` is want of memory.
-    pub(crate) fn refuse_waiting<R: Wait>(&mut self, rt: &R, id: MsgId) -> Result<(), AllocError> {
-        for ticket in self.tickets()? {
-            let reply = Reply {
-                ticket,
-                id,
-                answer: Answer::TooLate,
+    /// The requests that wait get no answer of the node any more, since it starts anew: they are answered 0x08. None is left: a session is lost for whose answer
+    /// there is no memory, since another request would get its ticket.
+    pub(crate) fn refuse_waiting<R: Wait>(&mut self, rt: &R, id: MsgId) {
+        for _ in 0..self.waiting() {
+            let Some(ticket) = self.first_ticket() else {
+                return;
             };
-            if let Some(sending) = self.service.reply(reply) {
-                self.send(rt, &sending)?;
-            }
+            self.reply(
+                rt,
+                Reply {
+                    ticket,
+                    id,
+                    answer: Answer::TooLate,
+                },
+            );
         }
-        Ok(())
     }
 
-    /// The tickets of the requests that wait. An `Err` is want of memory.
-    fn tickets(&self) -> Result<Vec<u64>, AllocError> {
-        let mut tickets = Vec::new(self.alloc);
+    /// The ticket of the first request that waits.
+    fn first_ticket(&self) -> Option<u64> {
         for (_, session) in self.service.sessions() {
-            for request in session.requests() {
-                tickets.push(request.ticket)?;
+            if let Some(request) = session.requests().first() {
+                return Some(request.ticket);
             }
         }
-        Ok(tickets)
+        None
+    }
+
+    /// The connection of a session is lost, if there is one.
+    fn lose<R: Wait>(&self, rt: &R, number: u8) {
+        if let Some(connection) = self.connections.get(&number) {
+            connection.lose(rt);
+        }
     }
 
     /// Whether a request or a delivery waits.

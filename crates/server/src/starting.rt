@@ -13,7 +13,7 @@ use crate::shift::Shift;
 use crate::station::Station;
 use crate::ticking::tick_on;
 use crate::working::work;
-use node_threads::Begins;
+use node_workers::Begins;
 use stable_store::StableStore;
 use std::alloc::{AllocError, Global};
 use std::rt::Clock;

@@ -4,7 +4,7 @@ use crate::rounds::Rounds;
 use crate::site::Site;
 use crossbeam_channel::{Receiver, Sender};
 use mc_types::{LAST_SERIAL, NodeNo};
-use node_threads::Life;
+use node_workers::Life;
 use std::net::TcpListener;
 use std::sync::atomic::{AtomicBool, AtomicU64, Ordering};
 use std::sync::{Mutex, Wait};

@@ -5,7 +5,7 @@ use crate::shift::{ALL_LOOKS, Shift};
 use crate::trouble::Trouble;
 use connection_parts::moment_at;
 use mc_types::Moment;
-use node_threads::{Action, Begins, Seat};
+use node_workers::{Action, Begins, Seat};
 use stable_store::StableStore;
 use std::rt::Clock;
 use std::sync::Wait;

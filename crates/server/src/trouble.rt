@@ -1,6 +1,6 @@
 //! What a refusal of the cluster means to the server.
 
-use node_threads::Refusal;
+use node_workers::Refusal;
 use std::alloc::AllocError;
 
 /// What a refusal of the cluster means to the server.

@@ -8,8 +8,7 @@ use crate::gate::BerthGate;
 use crate::shift::{FEW_LOOKS, Shift};
 use crate::trouble::Trouble;
 use connection_parts::Job;
-use node_threads::{Begins, Seat};
-use node_workers::{Heard, Home, tried};
+use node_workers::{Begins, Heard, Home, Seat, tried};
 use stable_store::StableStore;
 use std::sync::Wait;
 
@@ -49,6 +48,7 @@ fn deliver<'x, S: StableStore, L: Begins, R: Wait + Eprint>(
         alloc: shift.shared.house.alloc,
         connection,
         berth,
+        sequence: job.pushed.sequence,
         knows_optional: job.pushed.knows_optional,
         long: job.long,
         is_sent: false,

@@ -24,7 +24,7 @@ use Rattle.tick_rules.specs.declared.attempted.Attempted.{Attempted}
 use Rattle.tick_rules.specs.Dues.{IsDueBehind, IsTelling, MayBeDue as IsPossible, decree_for, fitting_for, own_rule, telling_rule}
 use Rattle.tick_rules.specs.Standpoints.{kept_of, setup_of}
 
-nothing_either : (holds : Bool) → if_so holds None ≡ None
+pub nothing_either : (holds : Bool) → if_so holds None ≡ None
 nothing_either true = refl
 nothing_either false = refl
 

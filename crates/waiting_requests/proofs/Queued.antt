@@ -6,6 +6,7 @@ use Rattle.mc_model.specs.message.Decree.{Decree}
 use Rattle.node_model.specs.Kept.{Held}
 use Rattle.node_model.specs.Requests.{id_of, settles, ticket_of}
 use Rattle.node_model.specs.Packets.{settled_for}
+use Rattle.node_model.proofs.Ascending.{ascend_kept}
 use Rattle.std.proofs.lemmas.List.{length-append, length-map}
 use Rattle.mc_model.specs.node.Room.{most_waiting}
 use Rattle.waiting_requests.specs.Waiting.{Waits, held_in, held_of}
@@ -32,22 +33,6 @@ queue_pushed before after waits w more few above is = record {
 }
 
 -- ---- some are taken away
-
-below_kept : (test : Held → Bool) (ticket : ℕ) (hs : List Held) → IsBelow ticket hs → IsBelow ticket (filter test hs)
-below_kept test ticket [] below = tt
-below_kept test ticket (h ∷ hs) below = at_test (test h) (below_kept test ticket hs below.1)
-  where
-    at_test : (pass : Bool) → IsBelow ticket (filter test hs) → IsBelow ticket (cond pass (h ∷ filter test hs) (filter test hs))
-    at_test true rest = (below.0, rest)
-    at_test false rest = rest
-
-ascend_kept : (test : Held → Bool) (hs : List Held) → Ascend hs → Ascend (filter test hs)
-ascend_kept test [] ascend = tt
-ascend_kept test (h ∷ hs) ascend = at_test (test h) (ascend_kept test hs ascend.1)
-  where
-    at_test : (pass : Bool) → Ascend (filter test hs) → Ascend (cond pass (h ∷ filter test hs) (filter test hs))
-    at_test true rest = (below_kept test (ticket_of h) hs ascend.0, rest)
-    at_test false rest = rest
 
 fewer_kept : (test : Held → Bool) (hs : List Held) → length (filter test hs) ≤ length hs
 fewer_kept test [] = omega arith

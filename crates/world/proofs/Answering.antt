@@ -13,12 +13,12 @@ use Rattle.node_laws.specs.Clusters.{KeptCluster, NodeInput, comes_to, kept_reac
 use Rattle.fate_chain.specs.declared.chain.Chain.{Chain}
 use Rattle.synod_acceptor.specs.Packets.{packet_of}
 use Rattle.synod_acceptor.specs.declared.packet.Packet.{Packet as Sent}
-use Rattle.node_core.specs.StepFault.{StepFault}
-use Rattle.node_core.specs.StepFault.TheVariants as causes
-use Rattle.node_core.specs.Input.{Input as Given}
-use Rattle.node_core.specs.Input.TheVariants as given
-use Rattle.node_core.specs.Attempting.{reason_of}
-use Rattle.node_core.specs.Steps.{GrantsKnown, IsFault as IsStepFault, input_of, refused_by}
+use Rattle.node_runs.specs.StepFault.{StepFault}
+use Rattle.node_runs.specs.StepFault.TheVariants as causes
+use Rattle.node_runs.specs.Input.{Input as Given}
+use Rattle.node_runs.specs.Input.TheVariants as given
+use Rattle.node_runs.specs.Attempting.{reason_of}
+use Rattle.node_runs.specs.Steps.{GrantsKnown, IsFault as IsStepFault, input_of, refused_by}
 use Rattle.sim_net.specs.Network.{numbered}
 use Rattle.sim_net.proofs.Numbers.{has_number, map_length, none_given, some_given}
 use Rattle.world.specs.declared.fault.WorldFault.{WorldFault}

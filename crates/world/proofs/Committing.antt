@@ -2,13 +2,13 @@
 use Rattle.std.proofs.Common.{◌≡◌, ◌≤◌, ◌↔◌, ◌⊎◌, true, Option, Some, None, Result, Ok, Err, sym, ap, ◌∙◌, inl, inr, arith, true≢false}
 use Rattle.std.specs.Prelude.{IfErr, IfOk, IsErrOf, OnOk}
 use Rattle.stable_store.specs.Stored.{HasFailed, KeepsStarted, Listed, stored_in}
-use Rattle.node_core.specs.Input.{Input}
-use Rattle.node_core.specs.Outputs.{Outputs}
-use Rattle.node_core.specs.StepFault.{StepFault}
-use Rattle.node_core.specs.StepFault.TheVariants.{Broken, Device, Memory}
-use Rattle.node_core.specs.Kept.{Kept}
-use Rattle.node_core.specs.declared.life.Life.{Life}
-use Rattle.node_core.specs.Nodes.{HasTaken, IsUnmoved, Standing, seen}
+use Rattle.node_runs.specs.Input.{Input}
+use Rattle.node_runs.specs.Outputs.{Outputs}
+use Rattle.node_runs.specs.StepFault.{StepFault}
+use Rattle.node_runs.specs.StepFault.TheVariants.{Broken, Device, Memory}
+use Rattle.node_runs.specs.Kept.{Kept}
+use Rattle.node_runs.specs.Life.{Life}
+use Rattle.node_runs.specs.Nodes.{HasTaken, IsUnmoved, Standing, seen}
 use Rattle.world.specs.Members.{IsLived, IsSound}
 
 -- a list does not fail

@@ -17,10 +17,10 @@ use Rattle.node_laws.specs.Clusters.{KeptCluster, NodeInput, comes_to, kept_reac
 use Rattle.node_laws.specs.Runs.{IsOneOf}
 use Rattle.synod_acceptor.specs.Packets.{packet_of}
 use Rattle.synod_acceptor.specs.declared.packet.Packet.{Packet as Sent}
-use Rattle.node_core.specs.Found.{Found}
-use Rattle.node_core.specs.Keeping.{kept_of}
-use Rattle.node_core.specs.Stops.{is_after}
-use Rattle.node_core.proofs.Restarts.{crash_is}
+use Rattle.node_runs.specs.Found.{Found}
+use Rattle.node_runs.specs.Keeping.{kept_of}
+use Rattle.node_runs.specs.Stops.{is_after}
+use Rattle.node_runs.proofs.Restarts.{crash_is}
 use Rattle.sim_net.specs.Network.{numbered}
 use Rattle.sim_net.proofs.Numbers.{number_in}
 use Rattle.world.specs.declared.fault.WorldFault.{WorldFault}

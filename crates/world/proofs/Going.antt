@@ -16,8 +16,8 @@ use Rattle.node_laws.specs.Clusters.{KeptCluster, NodeInput, WasSentBefore, come
 use Rattle.node_laws.specs.Runs.{IsOneOf, IsUpFor, MayCome}
 use Rattle.synod_acceptor.specs.Packets.{packet_of}
 use Rattle.synod_acceptor.specs.declared.packet.Packet.{Packet as Sent}
-use Rattle.node_core.specs.Kept.{Kept as Holding}
-use Rattle.node_core.specs.Keeping.{kept_of}
+use Rattle.node_runs.specs.Kept.{Kept as Holding}
+use Rattle.node_runs.specs.Keeping.{kept_of}
 use Rattle.sim_net.specs.Network.{numbered}
 use Rattle.sim_net.proofs.Numbers.{set_get}
 use Rattle.world.specs.Members.{HasChanged, IsUnmoved, Keeps}

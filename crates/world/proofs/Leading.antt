@@ -21,11 +21,11 @@ use Rattle.desk.specs.Admissions.{admitted}
 use Rattle.desk.specs.Arrivals.{door_at, judged_as, next_id}
 use Rattle.synod_acceptor.specs.Packets.{packet_of}
 use Rattle.synod_acceptor.specs.declared.packet.Packet.{Packet as Sent}
-use Rattle.node_core.specs.StepFault.{StepFault}
-use Rattle.node_core.specs.Input.{Input as Given}
-use Rattle.node_core.specs.Input.TheVariants as given
-use Rattle.node_core.specs.Keeping.{kept_of}
-use Rattle.node_core.specs.Steps.{GrantsKnown, IsFault as IsStepFault, input_of, refused_by}
+use Rattle.node_runs.specs.StepFault.{StepFault}
+use Rattle.node_runs.specs.Input.{Input as Given}
+use Rattle.node_runs.specs.Input.TheVariants as given
+use Rattle.node_runs.specs.Keeping.{kept_of}
+use Rattle.node_runs.specs.Steps.{GrantsKnown, IsFault as IsStepFault, input_of, refused_by}
 use Rattle.sim_net.specs.Network.{numbered}
 use Rattle.world.specs.declared.fault.WorldFault.{WorldFault}
 use Rattle.world.specs.declared.fault.WorldFault.TheVariants as faults

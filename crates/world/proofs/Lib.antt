@@ -1,3 +1,4 @@
+pub use Rattle.node_runs.proofs.Running
 pub mod Going
 pub mod Stopping
 pub mod Sending

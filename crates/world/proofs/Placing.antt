@@ -7,8 +7,8 @@ use Rattle.std.proofs.Math.ListN.{set}
 use Rattle.std.proofs.lemmas.List.{length-set}
 use Rattle.std.proofs.lemmas.Option.{get_or_from_slice_get, slice_get-get_or, slice_get_within}
 use Rattle.node_model.specs.Outputs.{nothing}
-use Rattle.node_core.specs.Input.{Input}
-use Rattle.node_core.specs.Input.TheVariants as inputs
+use Rattle.node_runs.specs.Input.{Input}
+use Rattle.node_runs.specs.Input.TheVariants as inputs
 use Rattle.sim_net.proofs.Numbers.{set_get}
 use Rattle.world.specs.declared.given.Given.{Given}
 use Rattle.synod_acceptor.specs.declared.packet.Packet.{Packet}

@@ -9,12 +9,12 @@ use Rattle.stable_store.specs.Stored.{Listed}
 use Rattle.synod_acceptor.specs.Packets.{packet_of}
 use Rattle.synod_acceptor.specs.declared.packet.Packet.{Packet}
 use Rattle.node_model.specs.Outputs.{nothing}
-use Rattle.node_core.specs.Input.TheVariants as inputs
-use Rattle.node_core.specs.Outputs.{Outputs as Sent}
-use Rattle.node_core.specs.Setups.{IsSetup}
-use Rattle.node_core.specs.Steps.{outputs_of}
-use Rattle.node_core.specs.declared.life.Life.{Life}
-use Rattle.node_core.specs.Nodes.{IsLifeOf, Standing}
+use Rattle.node_runs.specs.Input.TheVariants as inputs
+use Rattle.node_runs.specs.Outputs.{Outputs as Sent}
+use Rattle.node_runs.specs.Setups.{IsSetup}
+use Rattle.node_runs.specs.Steps.{outputs_of}
+use Rattle.node_runs.specs.Life.{Life}
+use Rattle.node_runs.specs.Nodes.{IsLifeOf, Standing}
 use Rattle.sim_net.proofs.Numbers.{map_length}
 use Rattle.world.specs.declared.given.Given.{Given}
 use Rattle.world.specs.Members.{HasPassed, HasSent, IsLived}

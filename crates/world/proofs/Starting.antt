@@ -10,10 +10,10 @@ use Rattle.node_runs.proofs.Running.{opened_so}
 use Rattle.synod_acceptor.specs.Packets.{packet_of}
 use Rattle.synod_acceptor.specs.Records.{record_at}
 use Rattle.synod_acceptor.specs.declared.packet.Packet.{Packet}
-use Rattle.node_core.specs.Keeping.{kept_of}
-use Rattle.node_core.specs.Setups.{setup_with}
-use Rattle.node_core.specs.declared.life.Life.{Life}
-use Rattle.node_core.specs.Nodes.{HasOpened}
+use Rattle.node_runs.specs.Keeping.{kept_of}
+use Rattle.node_runs.specs.Setups.{setup_with}
+use Rattle.node_runs.specs.Life.{Life}
+use Rattle.node_runs.specs.Nodes.{HasOpened}
 use Rattle.sim_net.proofs.Growing.{get_push}
 use Rattle.sim_net.specs.Network.{numbered}
 use Rattle.world.specs.Members.{AreOpened, IsOpened}

@@ -15,12 +15,12 @@ use Rattle.stable_store.specs.Stored.{AreSame, Listed}
 use Rattle.synod_acceptor.specs.Packets.{packet_of}
 use Rattle.synod_acceptor.specs.Records.{record_at}
 use Rattle.synod_acceptor.specs.declared.packet.Packet.{Packet}
-use Rattle.node_core.specs.Keeping.{kept_of}
-use Rattle.node_core.specs.Listing.{ListsRecorded}
-use Rattle.node_core.specs.declared.life.Life.{Life}
-use Rattle.node_core.specs.Nodes.{HasOpened, Standing}
-use Rattle.node_core.specs.Restarts.{next_life}
-use Rattle.node_core.proofs.Restarts.{as_restarted, stop_lists}
+use Rattle.node_runs.specs.Keeping.{kept_of}
+use Rattle.node_runs.specs.Listing.{ListsRecorded}
+use Rattle.node_runs.specs.Life.{Life}
+use Rattle.node_runs.specs.Nodes.{HasOpened, Standing}
+use Rattle.node_runs.specs.Restarts.{next_life}
+use Rattle.node_runs.proofs.Restarts.{as_restarted, stop_lists}
 use Rattle.world.specs.Members.{HasCrashed, HasRestarted, HasSaved}
 use Rattle.world.specs.Runs.{IsDown, StandsAs}
 use Rattle.world.specs.Scenes.{Placed}

@@ -16,16 +16,16 @@ use Rattle.stable_store.specs.declared.fault.StoreFault.TheVariants as stores
 use Rattle.synod_acceptor.specs.Packets.{packet_of}
 use Rattle.synod_acceptor.specs.Records.{record_at}
 use Rattle.synod_acceptor.specs.declared.packet.Packet.{Packet}
-use Rattle.node_core.specs.StepFault.{StepFault}
-use Rattle.node_core.specs.StepFault.TheVariants as steps
-use Rattle.node_core.specs.Input.{Input}
-use Rattle.node_core.specs.Input.TheVariants as inputs
-use Rattle.node_core.specs.Keeping.{kept_of}
-use Rattle.node_core.specs.Listing.{ListsRecorded}
-use Rattle.node_core.specs.Setups.{setup_with}
-use Rattle.node_core.specs.Steps.{GrantsKnown, IsFault as IsStepFault, input_of, refused_by}
-use Rattle.node_core.specs.declared.life.Life.{Life}
-use Rattle.node_core.specs.Nodes.{HasTakenQuietly, IsLifeOf, Standing}
+use Rattle.node_runs.specs.StepFault.{StepFault}
+use Rattle.node_runs.specs.StepFault.TheVariants as steps
+use Rattle.node_runs.specs.Input.{Input}
+use Rattle.node_runs.specs.Input.TheVariants as inputs
+use Rattle.node_runs.specs.Keeping.{kept_of}
+use Rattle.node_runs.specs.Listing.{ListsRecorded}
+use Rattle.node_runs.specs.Setups.{setup_with}
+use Rattle.node_runs.specs.Steps.{GrantsKnown, IsFault as IsStepFault, input_of, refused_by}
+use Rattle.node_runs.specs.Life.{Life}
+use Rattle.node_runs.specs.Nodes.{HasTakenQuietly, IsLifeOf, Standing}
 use Rattle.node_runs.specs.Runs.{may_come_to}
 use Rattle.world.specs.declared.fault.WorldFault.{WorldFault}
 use Rattle.world.specs.declared.fault.WorldFault.TheVariants as faults

@@ -21,12 +21,12 @@ use Rattle.waiting_requests.specs.Replying.{reply_given}
 use Rattle.stable_store.specs.Stored.{AreSame, Listed}
 use Rattle.synod_acceptor.specs.Packets.{packet_of}
 use Rattle.synod_acceptor.specs.Records.{record_at}
-use Rattle.node_core.specs.Attempting.{reason_of}
-use Rattle.node_core.specs.Keeping.{kept_of}
-use Rattle.node_core.specs.Listing.{ListsRecorded}
-use Rattle.node_core.specs.Steps.{IsKnown, granted_of}
-use Rattle.node_core.specs.Nodes.{Standing}
-use Rattle.node_core.specs.Stops.{is_after}
+use Rattle.node_runs.specs.Attempting.{reason_of}
+use Rattle.node_runs.specs.Keeping.{kept_of}
+use Rattle.node_runs.specs.Listing.{ListsRecorded}
+use Rattle.node_runs.specs.Steps.{IsKnown, granted_of}
+use Rattle.node_runs.specs.Nodes.{Standing}
+use Rattle.node_runs.specs.Stops.{is_after}
 use Rattle.sim_net.specs.Network.{numbered}
 use Rattle.world.specs.declared.fault.StartFault.{StartFault}
 use Rattle.world.specs.declared.fault.StartFault.TheVariants as starts

@@ -3,7 +3,7 @@ use Rattle.std.specs.Prelude.{ℕ, Bool, false, List, Option, Some, None, if◌t
 use Rattle.mc_model.specs.node.Actor.{opening_clock}
 use Rattle.stable_store.specs.Stored.{Listed}
 use Rattle.synod_acceptor.specs.declared.packet.Packet.{Packet}
-use Rattle.node_core.specs.Nodes.{Standing}
+use Rattle.node_runs.specs.Nodes.{Standing}
 use Rattle.sim_net.specs.Network.{numbered}
 
 -- a node over a store in memory, and whether it is up

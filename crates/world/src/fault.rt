@@ -6,7 +6,7 @@ ghost use Rattle.world.specs.declared.fault.WorldFault.TheVariants.{Memory};
 ghost use Rattle.world.specs.Members.{fault_from, fault_of_store};
 ghost use Rattle.world.specs.Runs.{fault_number};
 
-use node_core::{GrantRefusal, StepFault};
+use node_runs::{GrantRefusal, StepFault};
 use stable_store::StoreFault;
 use std::alloc::AllocError;
 

@@ -1,12 +1,12 @@
 //! What a step gives out.
 
 ghost use Rattle.std.specs.Prelude.{◌≡◌, ◌++◌, ◌≤◌, length};
-ghost use Rattle.node_core.specs.Steps.{outputs_of};
+ghost use Rattle.node_runs.specs.Steps.{outputs_of};
 ghost use Rattle.node_model.specs.Outputs.{nothing};
 ghost use Rattle.world.specs.Runs.{IsGiven};
 
 use fate_chain::Chain;
-use node_core::Outputs;
+use node_runs::Outputs;
 use pdu_tables::Status;
 use sim_net::Packets;
 use std::alloc::Global;

@@ -9,5 +9,6 @@ mod world;
 
 pub use fault::{StartFault, WorldFault};
 pub use given::Given;
+pub use node_runs::{Found, is_well_made, may_come, sender};
 pub use step::Step;
 pub use world::World;

@@ -1,20 +1,20 @@
 //! One node of a world.
 
 ghost use Rattle.std.specs.Prelude.{◌≡◌, ◌↔◌, ◌⊎◌, ◌≤◌, false, true, IfErr, IfOk, IsErrOf, OnErr, OnOk};
-ghost use Rattle.node_core.specs.StepFault.TheVariants.{Memory};
-ghost use Rattle.node_core.specs.Keeping.{kept_of};
-ghost use Rattle.node_core.specs.Steps.{IsFault, refused_by};
-ghost use Rattle.node_core.specs.Nodes.{HasTaken};
-ghost use Rattle.node_core.specs.Stops.{is_after};
+ghost use Rattle.node_runs.specs.StepFault.TheVariants.{Memory};
+ghost use Rattle.node_runs.specs.Keeping.{kept_of};
+ghost use Rattle.node_runs.specs.Steps.{IsFault, refused_by};
+ghost use Rattle.node_runs.specs.Nodes.{HasTaken};
+ghost use Rattle.node_runs.specs.Stops.{is_after};
 ghost use Rattle.stable_store.specs.declared.fault.StoreFault.TheVariants as stores;
 ghost use Rattle.world.specs.Members.{HasCrashed, HasPassed, HasRestarted, HasSaved, HasSent, IsOpened, IsUnmoved};
 
 use crate::given::Given;
 use mc_types::{LAST_INCARNATION, Moment};
-use node_core::{
-    Found, Input, Life, Node, Outputs, Pending, Setup, StepFault, open_node, opens_as_restarted,
+use node_runs::{
+    Found, Input, Life, Node, Outputs, Pending, Setup, StepFault, is_well_made, may_come,
+    open_node, opens_as_restarted,
 };
-use node_runs::{is_well_made, may_come};
 use sim_net::Packets;
 use stable_store::{ListStore, StoreFault};
 use std::alloc::{AllocError, Global};

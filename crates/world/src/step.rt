@@ -7,7 +7,7 @@ ghost use Rattle.world.specs.declared.step.Step.TheVariants as steps;
 use delivery::Outcome;
 use desk::Request;
 use mc_types::{Moment, MsgId, NodeNo, Slot};
-use node_core::Found;
+use node_runs::Found;
 use pdu_codec::SystemId;
 use std::alloc::AllocError;
 

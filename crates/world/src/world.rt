@@ -2,7 +2,7 @@
 
 ghost use Rattle.std.specs.Prelude.{◌≡◌, ◌+◌, ◌<◌, ◌≤◌, [], true, length, IfErr, IfOk, IfSome, None, OnErr, OnOk, Some};
 ghost use Rattle.mc_model.specs.synod.Lists.{In};
-ghost use Rattle.node_core.specs.Stops.{is_after};
+ghost use Rattle.node_runs.specs.Stops.{is_after};
 ghost use Rattle.mc_model.specs.message.Ids.{IsSerial};
 ghost use Rattle.world.specs.Members.{AreOpened, CantBegin, DoesNotTake, HasBegun, HasComeQuietly, HasForgotten, HasStopped, HasTaken, IsAddressed};
 ghost use Rattle.world.specs.Members.{IsSentIn, IsUpAt, Keeps, RefusesTo, away_in, undelivered_in};
@@ -17,7 +17,7 @@ use crate::given::Given;
 use crate::member::Member;
 use crate::step::Step;
 use mc_types::{LAST_SERIAL, MOST_NODES, Moment, NodeNo};
-use node_core::{Found, Input, Setup};
+use node_runs::{Found, Input, Setup};
 use sim_net::Packets;
 use std::alloc::{AllocError, Global};
 use std::marker::Model;

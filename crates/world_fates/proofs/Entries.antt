@@ -7,15 +7,7 @@ use Rattle.std.specs.Map.{lookup, remove_entry, set_value}
 use Rattle.std.specs.BTreeMap.{insert_entry, is_at}
 use Rattle.std.proofs.lemmas.Bool.Decides.{nat_tests}
 use Rattle.mc_model.specs.synod.Lists.{In}
-
-equal : (j k : ℕ) → nat_cmp j k ≡ Equal → j ≡ k
-equal j k is = grind (arith, nat_tests)
-
-is_here : (j k : ℕ) → is_eq (nat_cmp j k) ≡ true → j ≡ k
-is_here j k is = grind (arith, nat_tests, is)
-
-not_so : (j k : ℕ) → is_eq (nat_cmp j k) ≡ false → j ≡ k → ⊥
-not_so j k is here = grind (arith, nat_tests, is, here)
+use Rattle.script_text.proofs.Keys.{equal, is_here, not_so}
 
 module _ {X : Type 0} where
   -- an entry has this number

@@ -1,9 +1,9 @@
+pub use Rattle.world.proofs.Running
 pub mod Events
 pub mod Tracing
 pub mod Coming
 pub mod Standing
 pub mod Asking
-pub mod Receiving
 pub mod Voting
 pub mod Choosing
 pub mod Stating

@@ -25,21 +25,10 @@ use Rattle.node_laws.specs.Clusters.{MayHappen, NodeInput, StatesFinal, kept_rea
 use Rattle.node_laws.proofs.cluster.Chosen.{none_mapped}
 use Rattle.node_laws.proofs.cluster.Clustered.{clustered, one_more}
 use Rattle.node_laws.proofs.cluster.Sources.{IsCutAt, IsStepOf, cut_at, in_older, step_of, told_by}
-use Rattle.world_runs.proofs.Receiving.{ComesWith, exact_receives}
+use Rattle.mc_laws.proofs.step.Receiving.{ComesWith, came_by_input, exact_receives}
 
 rest_same : (step other : Step) (steps others : List Step) → step ∷ steps ≡ other ∷ others → steps ≡ others
 rest_same step other steps others same = cc
-
--- a packet that comes was sent before
-sent_with : (w : World) (input : Input) (packet : Packet) → CameTo w input → ComesWith input packet → In packet w.packets
-sent_with w (Delivery packet) other came same = subst (λ (p : Packet). In p w.packets) (sym same) came
-sent_with w (Crash packet after) other came same = subst (λ (p : Packet). In p w.packets) (sym same) came
-sent_with w (Arrival request) other came none = absurd none
-sent_with w (Refusal status) other came none = absurd none
-sent_with w (Tick moment up) other came none = absurd none
-sent_with w (Grant slot) other came none = absurd none
-sent_with w (Response slot outcome) other came none = absurd none
-sent_with w (Restart lost) other came none = absurd none
 
 -- an act receives its packet, and nothing else
 received_then : (node : ℕ) (a : Actor) (act : Act) (packet : Packet) (P : Type 0) → (In packet a.received → P) → (Receives packet ≡ act → P) →
@@ -84,7 +73,7 @@ module _ (cluster : Cluster) where
     sent_before packet received =
         received_by (world_at cluster before) step.node cut.older packet (In packet (world_at cluster before).packets)
         (holds_before.keeps.received step.node packet)
-        (λ among. sent_with (world_at cluster before) step.input packet is.came
+        (λ among. came_by_input (world_at cluster before) step.input packet is.came
         (exact_receives (setup_of cluster step.node) ((world_at cluster before).actors step.node) ((world_at cluster before).records step.node)
         step.input step.acts is.exact packet
         (subst (In (Receives packet)) (sym cut.split) (in_older cut.newer act cut.older (Receives packet) among))))

@@ -106,17 +106,6 @@ ascend_from held rises = sorted_ascends held (sorted_from_strictly_increasing (m
 pub increasing_from : (held : List Held) → Ascend held → IsStrictlyIncreasing (map ticket_of held)
 increasing_from held ascends = IsStrictlyIncreasing-from_sorted (map ticket_of held) (ascends_sorted held ascends)
 
-pub ascend_filter : (test : Held → Bool) (held : List Held) → Ascend held → Ascend (filter test held)
-ascend_filter test [] ascends = tt
-ascend_filter test (h ∷ others) ascends = by_test (test h) (ascend_filter test others ascends.1)
-  where
-    by_test : (b : Bool) → Ascend (filter test others) → Ascend (cond b (h ∷ filter test others) (filter test others))
-    by_test true rest = (
-      in_below (ticket_of h) (filter test others) (λ later among. below_in (ticket_of h) others ascends.0 later (in_filter test others later among)),
-      rest,
-    )
-    by_test false rest = rest
-
 -- a ticket is of one request
 pub one_of_ticket : (held : List Held) → Ascend held → (one other : Held) → In one held → In other held → ticket_of one ≡ ticket_of other → one ≡ other
 one_of_ticket [] ascends one other none among same = absurd none

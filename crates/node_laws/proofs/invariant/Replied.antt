@@ -33,7 +33,8 @@ use Rattle.node_laws.proofs.invariant.Answered.{AnswerIs, answer_is, known_is}
 use Rattle.node_laws.proofs.invariant.Deciding.{answered_in, known_for, to_answer}
 use Rattle.node_laws.proofs.invariant.Cancelling.{match_decides}
 use Rattle.node_laws.proofs.invariant.Held.{IsKeptAs, kept_as, waits_among}
-use Rattle.node_laws.proofs.invariant.Orders.{ascend_filter, ascend_from, below_in, fall_join, in_append, in_mapped, increasing_from}
+use Rattle.node_model.proofs.Ascending.{ascend_kept}
+use Rattle.node_laws.proofs.invariant.Orders.{ascend_from, below_in, fall_join, in_append, in_mapped, increasing_from}
 use Rattle.node_model.proofs.Filters.{filter_in}
 use Rattle.node_laws.proofs.cluster.Runs.{packets_more, receipts_more, replies_more, run_more}
 use Rattle.mc_laws.proofs.step.Assembly.{alone_on}
@@ -447,5 +448,5 @@ module _ (setup : Setup) (k : Kept) (s : Node) (agrees : Agrees setup k s) (work
   pub replied_agrees : Agrees setup (record k { held = left }) (waits setup s (map (λ h. h.waiting) left))
   replied_agrees = agrees_waits setup k s left agrees (λ id. stays id (message_at k id).round (agrees.message id).round)
       (λ h among. agrees.told h (in_filter (waits_on answer) k.held h among))
-      (increasing_from left (ascend_filter (waits_on answer) k.held ascends))
+      (increasing_from left (ascend_kept (waits_on answer) k.held ascends))
       (λ h among. agrees.given h (in_filter (waits_on answer) k.held h among))

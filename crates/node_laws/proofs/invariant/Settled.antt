@@ -25,7 +25,8 @@ use Rattle.node_laws.specs.Stands.{Agrees, IsHeld}
 use Rattle.node_laws.specs.Steps.{IsAtWork}
 use Rattle.node_laws.proofs.invariant.Deciding.{known_for, settled_in, to_settle}
 use Rattle.node_laws.proofs.invariant.Held.{IsKeptAs, kept_as, waits_among}
-use Rattle.node_laws.proofs.invariant.Orders.{acts_fall, ascend_filter, ascend_from, below_in, in_mapped, in_reverse, mapped_in, reverse_in}
+use Rattle.node_model.proofs.Ascending.{ascend_kept}
+use Rattle.node_laws.proofs.invariant.Orders.{acts_fall, ascend_from, below_in, in_mapped, in_reverse, mapped_in, reverse_in}
 use Rattle.node_model.proofs.Filters.{filter_in, filter_passes}
 use Rattle.node_laws.proofs.cluster.Runs.{did_more, packets_more, receipts_more, replies_more, run_more, saved_more}
 use Rattle.mc_laws.proofs.step.Assembly.{alone_on}
@@ -189,7 +190,7 @@ module _ (setup : Setup) (k : Kept) (s : Node) (agrees : Agrees setup k s) (work
           subst Due (sym it.is) (due_of it.from it.among),
       due_all act,
     );
-    order = acts_fall settle_act (λ h. refl) (filter test k.held) (ascend_filter test k.held ascends);
+    order = acts_fall settle_act (λ h. refl) (filter test k.held) (ascend_kept test k.held ascends);
   }
 
   pub settles_run : IsRunAlone setup.nodes setup.node s settled_acts

@@ -19,7 +19,8 @@ use Rattle.node_model.specs.Ticks.{is_late, ticked, without_round}
 use Rattle.node_laws.proofs.invariant.Seeing.{highest_later}
 use Rattle.node_laws.specs.Stands.{Agrees, IsMessage}
 use Rattle.node_laws.proofs.invariant.Coherence.{IsLater, fit_later}
-use Rattle.node_laws.proofs.invariant.Orders.{ascend_filter, ascend_from, increasing_from}
+use Rattle.node_model.proofs.Ascending.{ascend_kept}
+use Rattle.node_laws.proofs.invariant.Orders.{ascend_from, increasing_from}
 use Rattle.mc_parts.proofs.Membership.{in_filter}
 
 -- ---- messages without their rounds
@@ -134,7 +135,7 @@ module _ (setup : Setup) (k : Kept) (s : Node) (agrees : Agrees setup k s) (mome
         λ id. subst (IsMessage setup after_late id) (sym (message_ticked k (max k.clock moment) id)) (message_then id (message_at k id) (agrees.message id));
     waiting = ap (map (λ h. h.waiting)) held_is;
     told = λ h among. agrees.told h (in_filter (λ it. not (is_late (max k.clock moment) it)) k.held h among);
-    tickets = increasing_from kept_then.held (ascend_filter (λ it. not (is_late (max k.clock moment) it)) k.held (ascend_from k.held agrees.tickets));
+    tickets = increasing_from kept_then.held (ascend_kept (λ it. not (is_late (max k.clock moment) it)) k.held (ascend_from k.held agrees.tickets));
     given = λ h among. agrees.given h (in_filter (λ it. not (is_late (max k.clock moment) it)) k.held h among);
     listed = λ slot vote voted. listed_unrounded (is_at (nat_cmp slot.id)) k.messages (agrees.listed slot vote voted);
     ascends = subst (IsStrictlySortedBy nat_cmp) (sym (keys_unrounded k.messages)) agrees.ascends;

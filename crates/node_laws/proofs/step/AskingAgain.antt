@@ -29,7 +29,8 @@ use Rattle.node_model.specs.Ticks.{question}
 use Rattle.node_laws.specs.Stands.{IsHeld}
 use Rattle.node_laws.proofs.invariant.Held.{kept_as, waits_among}
 use Rattle.node_laws.proofs.invariant.Learning.{majority_decides}
-use Rattle.node_laws.proofs.invariant.Orders.{acts_fall, ascend_filter, in_mapped, in_reverse, mapped_in, reverse_in}
+use Rattle.node_model.proofs.Ascending.{ascend_kept}
+use Rattle.node_laws.proofs.invariant.Orders.{acts_fall, in_mapped, in_reverse, mapped_in, reverse_in}
 use Rattle.node_model.proofs.Filters.{filter_in, filter_passes}
 use Rattle.mc_laws.proofs.step.Assembly.{alone_on}
 use Rattle.node_laws.proofs.cluster.Runs.{packets_more, receipts_more, replies_more, run_more, saved_more}
@@ -149,7 +150,7 @@ module _ (setup : Setup) (before a : Actor) (held : List Held) (waiting : map (�
   pub asks_due : AreDue Due (ask_acts untold)
   asks_due = record {
     each = λ act. (due_only act, due_all act);
-    order = acts_fall ask_act (λ h. refl) untold (ascend_filter (is_untold setup.nodes) held ascends);
+    order = acts_fall ask_act (λ h. refl) untold (ascend_kept (is_untold setup.nodes) held ascends);
   }
 
   pub asks_may : (s : Node) → s.actor ≡ a → 1 ≤ setup.node → setup.node ≤ setup.nodes → a.up ≡ true → IsRunAlone setup.nodes setup.node s (ask_acts untold)

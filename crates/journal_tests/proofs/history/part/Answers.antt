@@ -1,7 +1,7 @@
 use denote.Param.Send.{sendable}
 use Rattle.std.proofs.alloc.Global.TheSendSync as heap
 use Rattle.journal_tests.proofs.unsteady_store.UnsteadyStore.TheSendSync as store
-use Rattle.node_crossing.proofs.Clusters.{cluster_sync}
+use Rattle.node_threads.proofs.Crossing.{cluster_sync}
 use Rattle.journal_tests.proofs.history.part.Goals as goal
 
 pub for_each_mut-requires-sync-F : goal.for_each_mut-requires-sync-F

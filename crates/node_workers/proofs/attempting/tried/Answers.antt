@@ -1,6 +1,6 @@
 use Rattle.std.proofs.Common.{◌≡◌, ℕ, List, [], ◌∷◌, ◌++◌, Result, Ok, Err, OnErr, refl, ap, ◌∙◌, inr, append_assoc, rules}
 use Rattle.node_threads.specs.Step.TheVariants as steps
-use Rattle.node_core.specs.declared.life.Life.{Life}
+use Rattle.node_threads.specs.Life.{Life}
 use Rattle.node_threads.specs.Slips.{Slipped}
 use Rattle.node_workers.specs.Attempts.{Leaves}
 use Rattle.node_workers.proofs.attempting.tried.Goals as goal

@@ -1,7 +1,7 @@
 use Rattle.std.proofs.Common.{subst}
-use Rattle.node_threads.specs.Actions.{AllBegin}
-use Rattle.node_threads.specs.Defaults.{Defaults}
-use Rattle.node_threads.specs.Openings.{cluster_of, kept_at}
+use Rattle.server.specs.Actions.{AllBegin}
+use Rattle.server.specs.Defaults.{Defaults}
+use Rattle.server.specs.Openings.{cluster_of, kept_at}
 use Rattle.serve_runner.proofs.running.serve_file.Goals as goal
 
 pub serve_over-requires-clause-begin : goal.serve_over-requires-clause-begin

@@ -1,5 +1,5 @@
-use Rattle.node_threads.specs.Openings.{cluster_of, kept_at}
-use Rattle.node_threads.specs.Numbers.{none_sent}
+use Rattle.server.specs.Openings.{cluster_of, kept_at}
+use Rattle.server.specs.Numbers.{none_sent}
 use Rattle.serve_runner.specs.Beginnings.{defaults_in}
 use Rattle.serve_runner.proofs.running.serve_over.Given as goal
 

@@ -1,6 +1,6 @@
 use Rattle.std.specs.Prelude.{ℕ, IfSome}
-use Rattle.node_threads.specs.GoingOn.{kept_in, numbers_behind}
-use Rattle.node_threads.specs.Histories.{ClosesParts}
+use Rattle.node_workers.specs.GoingOn.{kept_in, numbers_behind}
+use Rattle.node_workers.specs.Histories.{ClosesParts}
 use Rattle.server.proofs.parts.serve_parts.Given as goal
 
 abbrev pub invariant-loop : goal.invariant-loop

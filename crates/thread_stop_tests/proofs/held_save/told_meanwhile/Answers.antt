@@ -5,7 +5,7 @@ use Rattle.stable_store.proofs.latch.Latch.TheSendSync as latch
 use Rattle.stable_store.proofs.latch.LatchHold.TheSendSync as hold
 use Rattle.stable_store.proofs.list.ListStore.TheSendSync as list
 use Rattle.journal_parts.proofs.seat.Seat.TheSendSync as seat
-use Rattle.node_crossing.proofs.Clusters.{cluster_sync}
+use Rattle.node_threads.proofs.Crossing.{cluster_sync}
 use Rattle.thread_stop_tests.proofs.held_save.told_meanwhile.Goals as goal
 
 pub join-saved-requires-send-F : goal.join-saved-requires-send-F

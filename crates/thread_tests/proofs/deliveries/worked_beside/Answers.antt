@@ -3,7 +3,7 @@ use Rattle.std.proofs.alloc.Global.TheSendSync as heap
 use Rattle.stable_store.proofs.list.ListStore.TheSendSync as list
 use Rattle.journal_parts.proofs.seat.Seat.TheSendSync as seat
 use Rattle.worker_parts.proofs.hints.Hints.TheSendSync as hints
-use Rattle.node_crossing.proofs.Clusters.{cluster_sync}
+use Rattle.node_threads.proofs.Crossing.{cluster_sync}
 use Rattle.thread_tests.proofs.deliveries.worked_beside.Goals as goal
 
 pub join-worked-requires-send-F : goal.join-worked-requires-send-F

@@ -2,7 +2,7 @@ use denote.Param.Send.{sendable}
 use Rattle.std.proofs.alloc.Global.TheSendSync as heap
 use Rattle.stable_store.proofs.list.ListStore.TheSendSync as list
 use Rattle.journal_parts.proofs.seat.Seat.TheSendSync as seat
-use Rattle.node_crossing.proofs.Clusters.{cluster_sync}
+use Rattle.node_threads.proofs.Crossing.{cluster_sync}
 use Rattle.thread_tests.proofs.read_back.journal_of.Goals as goal
 
 pub join-requires-send-F : goal.join-requires-send-F

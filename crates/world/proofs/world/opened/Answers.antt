@@ -2,7 +2,7 @@ use Rattle.std.proofs.Common.{◌≡◌, ◌+◌, ℕ, Result, Ok, ap, subst, �
 use Rattle.std.specs.Prelude.{IfOk}
 use Rattle.mc_model.specs.node.Setup.{Setup}
 use Rattle.mc_types.specs.declared.fault.TypeFault.{TypeFault}
-use Rattle.node_core.specs.Setups.{setup_with}
+use Rattle.node_runs.specs.Setups.{setup_with}
 use Rattle.world.specs.Members.{IsOpened}
 use Rattle.world.proofs.Starting.{pushed}
 use Rattle.world.proofs.world.opened.Goals as goal

@@ -1,6 +1,6 @@
 use Rattle.std.proofs.Common.{◌≡◌, false, Option, None, refl, sym, subst, rules}
-use Rattle.node_parts.specs.declared.fault.StepFault.{StepFault}
-use Rattle.node_parts.specs.declared.fault.StepFault.TheVariants.{StrangeLife}
+use Rattle.node_kept.specs.StepFault.{StepFault}
+use Rattle.node_kept.specs.StepFault.TheVariants.{StrangeLife}
 use Rattle.node_kept.specs.Steps.{IsFault}
 use Rattle.node_core.specs.Nodes.{fault_in}
 use Rattle.node_core.specs.Permits.{is_life_of, unless_strange}

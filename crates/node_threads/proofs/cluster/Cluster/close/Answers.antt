@@ -1,7 +1,7 @@
 use Rattle.std.proofs.Common.{List, subst}
 use Rattle.node_laws.specs.Clusters.{NodeInput}
-use Rattle.journal_laws.specs.Journals.{IsJournal}
-use Rattle.journal_laws.proofs.Telling.{
+use Rattle.journal_parts.specs.Journals.{IsJournal}
+use Rattle.journal_parts.proofs.Telling.{
   accepted_known,
   all_chosen,
   all_deliveries_stand,

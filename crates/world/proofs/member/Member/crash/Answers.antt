@@ -1,6 +1,6 @@
 use Rattle.std.proofs.Common.{true, false, refl, sym, subst}
-use Rattle.node_core.specs.Found.{Found}
-use Rattle.node_core.specs.Stops.{is_after}
+use Rattle.node_runs.specs.Found.{Found}
+use Rattle.node_runs.specs.Stops.{is_after}
 use Rattle.world.specs.Members.{HasCrashed, HasSaved}
 use Rattle.world.specs.Scenes.{Placed}
 use Rattle.world.proofs.Sending.{one_of}

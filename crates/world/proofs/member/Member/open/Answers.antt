@@ -1,5 +1,5 @@
 use Rattle.std.proofs.Common.{true, refl}
-use Rattle.node_core.proofs.Lists.{over_list}
+use Rattle.node_runs.proofs.Lists.{over_list}
 use Rattle.world.specs.Scenes.{Placed}
 use Rattle.world.proofs.Starting.{is_opened}
 use Rattle.world.proofs.member.Member.open.Goals as goal

@@ -1,5 +1,5 @@
 use Rattle.std.proofs.Common.{◌<◌, true, refl, sym, subst, ◌∙◌, arith}
-use Rattle.node_core.proofs.Lists.{over_list}
+use Rattle.node_runs.proofs.Lists.{over_list}
 use Rattle.world.specs.Members.{HasRestarted}
 use Rattle.world.specs.Scenes.{Placed}
 use Rattle.world.proofs.Sending.{lived, one_of}

@@ -1,10 +1,10 @@
 use Rattle.std.proofs.Common.{◌≡◌, ap, ◌∙◌, arith}
 use Rattle.mc_model.specs.node.Outputs.{Outputs}
 use Rattle.node_model.specs.Stepped.{stepped}
-use Rattle.node_core.specs.Input.{Input}
-use Rattle.node_core.specs.Kept.{Kept as Holding}
-use Rattle.node_core.specs.Keeping.{kept_of}
-use Rattle.node_core.specs.Steps.{input_of, outputs_of}
+use Rattle.node_runs.specs.Input.{Input}
+use Rattle.node_runs.specs.Kept.{Kept as Holding}
+use Rattle.node_runs.specs.Keeping.{kept_of}
+use Rattle.node_runs.specs.Steps.{input_of, outputs_of}
 use Rattle.world.specs.Scenes.{Placed}
 use Rattle.world.proofs.Sending.{same_count}
 use Rattle.world.proofs.member.Member.take.Goals as goal

@@ -1,5 +1,5 @@
 use Rattle.std.proofs.Common.{refl}
-use Rattle.node_core.specs.Stops.{is_after}
+use Rattle.node_runs.specs.Stops.{is_after}
 use Rattle.world.proofs.Ending.{crash_leads, undelivered}
 use Rattle.world.proofs.Going.{stays}
 use Rattle.world.proofs.Placing.{keeps_all, stopped_up}

@@ -1,6 +1,6 @@
 use Rattle.std.proofs.Common.{◌≡◌, List, false, refl, ap, subst}
 use Rattle.std.proofs.Math.ListN.{set}
-use Rattle.node_core.specs.Stops.{is_after}
+use Rattle.node_runs.specs.Stops.{is_after}
 use Rattle.world.specs.Members.{HasChanged, HasCrashed, HasStopped, IsUnmoved, Keeps}
 use Rattle.world.specs.Runs.{IsSomewhere}
 use Rattle.world.specs.Scenes.{Placed, Scene}

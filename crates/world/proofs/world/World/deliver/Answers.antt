@@ -1,5 +1,5 @@
 use Rattle.std.proofs.Common.{Ok, arith}
-use Rattle.node_core.specs.Input.TheVariants as inputs
+use Rattle.node_runs.specs.Input.TheVariants as inputs
 use Rattle.world.proofs.Answering.{deliver_is, input_leads}
 use Rattle.world.proofs.Placing.{taken_up}
 use Rattle.world.proofs.world.World.deliver.Goals as goal

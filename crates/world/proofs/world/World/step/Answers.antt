@@ -1,6 +1,6 @@
 use Rattle.std.proofs.Common.{◌≡◌, sym, subst}
 use Rattle.std.specs.Prelude.{OnOk}
-use Rattle.node_core.specs.Input.TheVariants as inputs
+use Rattle.node_runs.specs.Input.TheVariants as inputs
 use Rattle.world.specs.declared.step.Step.{Step}
 use Rattle.world.specs.Runs.{Leads, leaves_up, node_at}
 use Rattle.world.specs.Scenes.{is_up_in}

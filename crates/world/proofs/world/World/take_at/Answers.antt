@@ -1,8 +1,8 @@
 use Rattle.std.proofs.Common.{◌≡◌, List, false, refl, ap, subst, ◌∙◌}
 use Rattle.std.proofs.Math.ListN.{set}
 use Rattle.synod_acceptor.specs.declared.packet.Packet.{Packet}
-use Rattle.node_core.specs.Keeping.{kept_of}
-use Rattle.node_core.specs.Steps.{IsFault, refused_by}
+use Rattle.node_runs.specs.Keeping.{kept_of}
+use Rattle.node_runs.specs.Steps.{IsFault, refused_by}
 use Rattle.world.specs.Members.{HasChanged, HasSent, HasTaken, IsUnmoved, Keeps}
 use Rattle.world.specs.Runs.{IsSomewhere}
 use Rattle.world.specs.Scenes.{Placed, Scene}

@@ -3,7 +3,7 @@ use Rattle.std.proofs.Math.ListN.{set}
 use Rattle.mc_model.specs.synod.Lists.{In}
 use Rattle.sim_net.specs.Network.{numbered}
 use Rattle.synod_acceptor.specs.declared.packet.Packet.{Packet}
-use Rattle.node_core.specs.Input.TheVariants as inputs
+use Rattle.node_runs.specs.Input.TheVariants as inputs
 use Rattle.world.specs.Members.{HasTaken}
 use Rattle.world.specs.Runs.{IsSomewhere}
 use Rattle.world.specs.Scenes.{Scene}

@@ -1,8 +1,8 @@
 use Rattle.std.proofs.Common.{◌≡◌, ℕ, zero, suc, ◌≤◌, List, Some, Result, Ok, Err, inr, refl, arith}
 use Rattle.std.specs.Prelude.{IfErr, OnOk}
 use Rattle.sim_net.specs.Network.{numbered}
-use Rattle.node_core.specs.Input.{Input}
-use Rattle.node_core.specs.Input.TheVariants as given
+use Rattle.node_runs.specs.Input.{Input}
+use Rattle.node_runs.specs.Input.TheVariants as given
 use Rattle.world.specs.declared.fault.WorldFault.{WorldFault}
 use Rattle.world.specs.declared.given.Given.{Given}
 use Rattle.world.specs.Members.{DoesNotTake, RefusesTo}

@@ -1,0 +1,4 @@
+pub use Rattle.node_workers.specs.Actions
+pub use Rattle.node_workers.specs.Defaults
+pub use Rattle.node_workers.specs.Numbers
+pub use Rattle.node_workers.specs.Openings
