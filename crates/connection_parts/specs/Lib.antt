@@ -4,3 +4,4 @@ pub mod Places
 pub mod Laws
 pub mod Fitting
 pub mod Tallies
+pub mod Timepieces

@@ -8,6 +8,7 @@ mod moments;
 mod outbox;
 mod place;
 mod tally;
+mod timepiece;
 
 pub use fitting::without_optional;
 pub use frame_queue::{FrameQueue, MANY_FRAMES, MOST_FRAMES};
@@ -16,3 +17,4 @@ pub use moments::moment_at;
 pub use outbox::{Frame, Outbox, Withdrawal};
 pub use place::{Job, Place};
 pub use tally::Tally;
+pub use timepiece::Timepiece;

@@ -1,6 +1,6 @@
 //! What waits to be written on a connection.
 
-ghost use Rattle.std.specs.Prelude.{◌≡◌, [], None, IfOk};
+ghost use Rattle.std.specs.Prelude.{◌≡◌, [], None, false, IfOk};
 ghost use Rattle.std.specs.List.{slice_get};
 ghost use Rattle.connection_parts.specs.FrameQueues.{after_put, can_put, cut, has_room, is_idle, shut};
 ghost use Rattle.connection_parts.specs.Outboxes.{after_take, is_of, withdrawal, without};

@@ -5,22 +5,27 @@ use connection_parts::{FrameQueue, MANY_FRAMES, MOST_FRAMES};
 use std::alloc::Global;
 use std::process::Abort;
 
-fn queue(rt: &impl Abort, alloc: Global) -> FrameQueue {
+fn queue(rt: &impl Abort, alloc: Global) -> FrameQueue<Vec<u8>> {
     FrameQueue::make(alloc).expect(rt, "a queue")
 }
 
 /// Puts a frame that is this octet alone.
-fn put(rt: &impl Abort, alloc: Global, queue: &mut FrameQueue, octet: u8) -> bool {
+fn put(rt: &impl Abort, alloc: Global, queue: &mut FrameQueue<Vec<u8>>, octet: u8) -> bool {
     queue.put([octet].to_vec(alloc).expect(rt, "a frame"))
 }
 
 /// The octet of the oldest frame.
-fn taken(queue: &mut FrameQueue) -> Option<u8> {
+fn taken(queue: &mut FrameQueue<Vec<u8>>) -> Option<u8> {
     queue.take()?.first().copied()
 }
 
 /// How many of so many frames are put.
-fn put_many(rt: &impl Abort, alloc: Global, queue: &mut FrameQueue, count: usize) -> usize {
+fn put_many(
+    rt: &impl Abort,
+    alloc: Global,
+    queue: &mut FrameQueue<Vec<u8>>,
+    count: usize,
+) -> usize {
     let mut all = 0usize;
     for _ in 0..count {
         if put(rt, alloc, queue, 0) {

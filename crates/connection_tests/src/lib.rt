@@ -8,6 +8,10 @@ mod frame_queues;
 #[cfg(test)]
 mod numbers;
 #[cfg(test)]
+mod outboxes;
+#[cfg(test)]
 mod places;
 #[cfg(test)]
 mod same;
+#[cfg(test)]
+mod timepieces;

@@ -11,7 +11,8 @@ use crate::opening::{Configured, listen_all, open_all, open_stores, read_file};
 use config::{Config, NodeConfig};
 use node_stores::NodeStore;
 use server::{
-    Beginning, Defaults, Doors, Ending, Life, MOST_SEATS, Served, Settings, VisibleText, serve,
+    Beginning, Defaults, Doors, Ending, LAST_INCARNATION, Life, MOST_SEATS, Served, Settings,
+    VisibleText, serve,
 };
 use std::alloc::{AllocError, Global};
 use std::marker::Brand;
@@ -23,8 +24,8 @@ use std::sync::{Arc, Wait};
 use std::thread::Threads;
 
 /// Serves by the configuration in a file until it ends: how many entries its journal has, in all its parts. Of several faults that keep it from serving that of
-/// the file is told first, then those of the configuration, the stores and the listeners. Once it serves, Ended or Journal tell why it ended, if it was not
-/// asked to.
+/// the file is told first, then those of the configuration, of stores that can't be opened, of the listeners, and of what the stores hold. So a start that fails
+/// at a listener uses up no incarnation. Once it serves, Ended or Journal tell why it ended, if it was not asked to.
 ///
 /// The lines that tell that it serves come once all stores are open, and all nodes listen.
 pub fn serve_file<
@@ -49,8 +50,8 @@ pub fn serve_file<
     let Some(defaults) = Defaults::make(config.first_serial, config.default_validity) else {
         return Err(ServeFault::Memory);
     };
-    let (nodes, lives) = open_all(alloc, stores, defaults)?;
     let listeners = listen_all(rt, alloc, &config.nodes)?;
+    let (nodes, lives) = open_all(alloc, stores, defaults)?;
     tell_start(rt, &config, &lives);
     let beginning = Beginning {
         blank: Blank::new(MOST_SEATS),
@@ -99,6 +100,9 @@ fn ended(served: Served<NodeStore>) -> Result<u64, ServeFault> {
     }
 }
 
+/// From which incarnation on of 9,999 an operator is told at each start how many are left.
+const LATE_INCARNATION: u16 = 9_000;
+
 /// Tells where each node listens, in which incarnation, and where its store is, and that the centre serves.
 fn tell_start<R: Eprint>(rt: &R, config: &Config, lives: &[Life]) {
     for (node, life) in config.nodes.iter().zip(lives) {
@@ -127,4 +131,8 @@ fn tell_node<R: Eprint>(rt: &R, node: &NodeConfig, life: &Life) {
             )
         }
     };
+    if incarnation >= LATE_INCARNATION {
+        let left = LAST_INCARNATION.saturating_sub(incarnation);
+        let _ = eprintln!(rt; "node {number}: {left} incarnations are left");
+    }
 }

@@ -5,16 +5,17 @@ use crate::log::Log;
 use crate::notice::Notice;
 use crate::pace::Pace;
 use crate::station::{Station, Wake};
+use crate::ticking::{milliseconds, milliseconds_since};
 use config::{Config, Own};
-use connection_parts::Tally;
-use mc_types::NodeNo;
+use connection_parts::{Tally, Timepiece};
+use mc_types::{Moment, NodeNo};
 use node_workers::Slip;
 use std::alloc::Global;
 use std::rt::Clock;
 use std::sync::atomic::{AtomicBool, AtomicU64, Ordering};
-use std::sync::{Arc, Wait};
+use std::sync::{Arc, Mutex, Wait};
 use std::thread;
-use std::time::Duration;
+use std::time::{Duration, Instant};
 
 /// What stays of a server through all parts of its journal: what it is run by, and its nodes with their sessions.
 #[derive(Drop)]
@@ -29,6 +30,9 @@ pub(crate) struct House {
     pub(crate) asked: Arc<AtomicBool>,
     pub(crate) counters: Counters,
     pub(crate) pace: Pace,
+    /// When it began, by the clock that rises alone; none if that can't be read.
+    pub(crate) begun: Option<Instant>,
+    pub(crate) timepiece: Mutex<Timepiece>,
 }
 
 /// How long what waits on sessions goes out once the server ended between two parts, in milliseconds.
@@ -206,6 +210,26 @@ impl House {
         if self.pace.presses() || (self.pace.holds() && !self.carries(rt)) {
             self.rest();
         }
+    }
+
+    /// The moment that the server goes by. It tells the operator if the clock of the system has stepped.
+    pub(crate) fn now<R: Wait + Eprint + Clock>(&self, rt: &R) -> Moment {
+        let steady = milliseconds_since(rt, &self.begun);
+        let system = milliseconds(rt);
+        let mut piece = self.timepiece.lock(rt);
+        let has_stepped = piece.read(steady, system);
+        let moment = piece.moment();
+        drop(piece);
+        if has_stepped {
+            let (ours, theirs) = (u64::from(moment.seconds()), system / 1_000);
+            self.log.must_tell(
+                rt,
+                format_args!(
+                    "clock: the system's has stepped to {theirs}, and the server goes by {ours}; it follows in ten minutes if that stays so"
+                ),
+            );
+        }
+        moment
     }
 
     /// Whether a delivery is under way at some node.

@@ -31,6 +31,7 @@ mod trouble;
 mod working;
 
 pub use ending::Ending;
+pub use mc_types::LAST_INCARNATION;
 pub use node_workers::{
     Defaults, Life, MOST_SEATS, Node, StartFault, open_nodes, opened_nodes_begin,
 };

@@ -6,7 +6,6 @@ use crate::house::House;
 use crate::notice::Notice;
 use crate::starting::{Arrival, start_reader, start_writer};
 use crate::station::Station;
-use crate::ticking::now;
 use std::alloc::AllocError;
 use std::net::{SocketAddr, TcpStream};
 use std::rt::Clock;
@@ -88,7 +87,7 @@ fn placed<R: Wait + Eprint + Clock>(
     }
     let alloc = house.alloc;
     let serial = house.counters.next_connection();
-    let begun = now(rt).seconds();
+    let begun = house.now(rt).seconds();
     let connection = Arc::new(alloc, Connection::make(alloc, serial, begun, stream)?)?;
     let theirs = Arc::try_clone(&connection)?;
     let mut guard = station.site.lock(rt);

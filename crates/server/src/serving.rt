@@ -14,8 +14,9 @@ use crate::rounds::Rounds;
 use crate::site::Site;
 use crate::starting::start_listeners;
 use crate::station::{Anew, Station};
-use crate::ticking::now;
+use crate::ticking::{milliseconds, now};
 use config::{Config, Own};
+use connection_parts::Timepiece;
 use crossbeam_channel::unbounded;
 use mc_types::NodeNo;
 use node_workers::{Begins, Cluster, Journal, Life, Node};
@@ -29,6 +30,7 @@ use std::sync::ledger::Blank;
 use std::sync::{Arc, Mutex, Wait};
 use std::thread;
 use std::thread::Threads;
+use std::time::Instant;
 
 /// How the server is to be run.
 #[derive(Drop)]
@@ -120,6 +122,8 @@ fn house_of<R: Clock>(
         asked,
         counters: Counters::none(),
         pace: Pace::of(own),
+        begun: Instant::now(rt).ok(),
+        timepiece: Mutex::new(Timepiece::make(0, milliseconds(rt))),
     })
 }
 

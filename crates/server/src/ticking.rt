@@ -11,7 +11,7 @@ use std::rt::Clock;
 use std::sync::Wait;
 use std::sync::atomic::Ordering;
 use std::thread;
-use std::time::{Duration, SystemTime, UNIX_EPOCH};
+use std::time::{Duration, Instant, SystemTime, UNIX_EPOCH};
 
 /// In how many pieces the second between two ticks is slept, so that the end of a life is seen soon.
 const PIECES: u32 = 50;
@@ -40,6 +40,20 @@ pub(crate) fn milliseconds<R: Clock>(rt: &R) -> u64 {
             .as_secs()
             .saturating_mul(1_000)
             .saturating_add(u64::from(since.subsec_millis())),
+        Err(_) => 0,
+    }
+}
+
+/// How long ago this was, by the clock that rises alone, in milliseconds; 0 if it can't be read.
+pub(crate) fn milliseconds_since<R: Clock>(rt: &R, begun: &Option<Instant>) -> u64 {
+    let Some(begun) = begun else {
+        return 0;
+    };
+    match begun.elapsed(rt) {
+        Ok(gone) => gone
+            .as_secs()
+            .saturating_mul(1_000)
+            .saturating_add(u64::from(gone.subsec_millis())),
         Err(_) => 0,
     }
 }
@@ -210,7 +224,7 @@ fn tick<S: StableStore, L: Begins, R: Wait + Eprint + Clock>(
     shift: &Shift<'_, S, L, R>,
     seat: &mut Seat<L>,
 ) -> Result<(), Trouble> {
-    let moment = now(shift.rt);
+    let moment = shift.shared.house.now(shift.rt);
     let mut guard = shift.station.site.lock(shift.rt);
     let site = &mut *guard;
     let up = site.accounts_up()?;
