@@ -1,36 +1,125 @@
 //! The lines that an operator reads.
 
+use std::alloc::{AllocError, Global};
+use std::collections::VecDeque;
 use std::fmt;
-use std::sync::{Mutex, Wait};
+use std::sync::{Condvar, Mutex, Wait};
 
-/// The lines that an operator reads, on standard error: one at a time, since threads write them. A quiet one has no lines but those that must be told.
+/// How many lines wait to be written, before what comes is counted in place of being told.
+const MANY_LINES: usize = 1_000;
+
+/// The lines that an operator reads, on standard error. Who has a line puts it to those that wait, and goes on; a thread writes them. So a standard error that nobody
+/// reads holds up nobody who serves. A quiet one has no lines but those that must be told.
 #[derive(Drop)]
 pub(crate) struct Log {
+    alloc: Global,
     is_quiet: bool,
-    turn: Mutex<()>,
+    lines: Mutex<Lines>,
+    changed: Condvar,
+}
+
+/// The lines that wait to be written, the oldest first; how many were not told, since too many waited or there was no memory; and whether none comes any more.
+#[derive(Drop)]
+struct Lines {
+    waiting: VecDeque<String>,
+    lost: u64,
+    is_shut: bool,
+}
+
+/// What comes next for who writes lines.
+#[derive(Drop)]
+enum Told {
+    Line(String),
+    /// So many lines were lost.
+    Lost(u64),
+    /// Nothing, now and later.
+    End,
+}
+
+impl Lines {
+    /// Whether who writes has to wait.
+    fn is_idle(&self) -> bool {
+        self.waiting.is_empty() && self.lost == 0 && !self.is_shut
+    }
+
+    /// Puts a line behind the others, or counts it as lost.
+    fn put(&mut self, line: String) {
+        if self.waiting.push_back(line).is_err() {
+            self.lost = self.lost.saturating_add(1);
+        }
+    }
 }
 
 impl Log {
-    pub(crate) fn make(is_quiet: bool) -> Log {
+    /// Nothing waits.
+    pub(crate) fn make(alloc: Global, is_quiet: bool) -> Log {
         Log {
+            alloc,
             is_quiet,
-            turn: Mutex::new(()),
+            lines: Mutex::new(Lines {
+                waiting: VecDeque::new(alloc),
+                lost: 0,
+                is_shut: false,
+            }),
+            changed: Condvar::new(),
         }
     }
 
-    /// A line, unless it is quiet.
-    pub(crate) fn line<R: Wait + Eprint, D: fmt::Display + Drop>(&self, rt: &R, line: D) {
+    /// A line, unless it is quiet. It is counted, and not told, if many wait.
+    pub(crate) fn line<R: Wait, D: fmt::Display + Drop>(&self, rt: &R, line: D) {
         if self.is_quiet {
             drop(line);
         } else {
-            self.must_tell(rt, line);
+            self.put(rt, line, MANY_LINES);
         }
     }
 
-    /// A line that is told even if it is quiet. That it could not be written stops nothing.
-    pub(crate) fn must_tell<R: Wait + Eprint, D: fmt::Display + Drop>(&self, rt: &R, line: D) {
-        let turn = self.turn.lock(rt);
-        let _ = rt.eprintln(line);
-        drop(turn);
+    /// A line that is told even if it is quiet, and if many wait. That it could not be written stops nothing.
+    pub(crate) fn must_tell<R: Wait, D: fmt::Display + Drop>(&self, rt: &R, line: D) {
+        self.put(rt, line, usize::MAX);
+    }
+
+    /// A line waits to be written, unless so many do.
+    fn put<R: Wait, D: fmt::Display + Drop>(&self, rt: &R, line: D, most: usize) {
+        let text = format!(in self.alloc; "{line}");
+        let mut lines = self.lines.lock(rt);
+        match text {
+            Ok(text) if lines.waiting.len() < most => lines.put(text),
+            _ => lines.lost = lines.lost.saturating_add(1),
+        }
+        drop(lines);
+        self.changed.notify_all();
+    }
+
+    /// Writes the lines that wait, and waits for more, until none comes any more.
+    pub(crate) fn write_all<R: Wait + Eprint>(&self, rt: &R) {
+        for _ in rt.forever() {
+            let _ = match self.next(rt) {
+                Told::Line(line) => rt.eprintln(line),
+                Told::Lost(count) => rt.eprintln(format_args!("log: {count} lines were not told")),
+                Told::End => return,
+            };
+        }
+    }
+
+    /// What comes next, for which it waits.
+    fn next<R: Wait>(&self, rt: &R) -> Told {
+        let lines = self.lines.lock(rt);
+        let mut lines = self.changed.wait_while(rt, lines, |lines| lines.is_idle());
+        let lost = lines.lost;
+        lines.lost = 0;
+        if lost > 0 {
+            return Told::Lost(lost);
+        }
+        match lines.waiting.pop_front() {
+            Some(line) => Told::Line(line),
+            None => Told::End,
+        }
+    }
+
+    /// No line comes any more.
+    pub(crate) fn shut<R: Wait>(&self, rt: &R) {
+        self.lines.lock(rt).is_shut = true;
+        self.changed.notify_all();
     }
 }

@@ -12,7 +12,7 @@ use crate::pace::Pace;
 use crate::parts::serve_parts;
 use crate::rounds::Rounds;
 use crate::site::Site;
-use crate::starting::start_listeners;
+use crate::starting::{start_listeners, start_log};
 use crate::station::{Anew, Station};
 use crate::ticking::{milliseconds, now};
 use config::{Config, Own};
@@ -117,7 +117,7 @@ fn house_of<R: Clock>(
         config,
         own,
         stations: stations_of(rt, alloc, listeners, lives)?,
-        log: Log::make(is_quiet),
+        log: Log::make(alloc, is_quiet),
         end: End::none(),
         asked,
         counters: Counters::none(),
@@ -141,9 +141,11 @@ fn serve_over<
         move |outer| -> Served<S>
             ensures { IfSome result.journal (λ journal. (parts : ℕ) × ClosesParts S.stored L.cluster L.kept L.numbers parts journal) }
         {
+            start_log(rt, outer, house);
             start_listeners(rt, outer, house);
             let served = serve_parts(rt, house, cluster);
             house.end_all(rt);
+            house.log.shut(rt);
             served
         },
     )

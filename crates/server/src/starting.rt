@@ -22,6 +22,18 @@ use std::thread::{Scope, Threads};
 
 // What follows goes on through all parts of the journal.
 
+/// Starts the thread that writes the lines that an operator reads. If it can't be started, the server ends.
+pub(crate) fn start_log<'o, O, R: Threads + Wait + Eprint + Sync>(
+    rt: &'o R,
+    outer: &'o Scope<'o, O>,
+    house: &'o House,
+) {
+    match outer.spawn(move || house.log.write_all(rt)) {
+        Ok(_) => {}
+        Err(_) => house.end.set(rt, Ending::Threads),
+    }
+}
+
 /// Starts the threads in which the nodes listen. If one can't be started, the server ends.
 pub(crate) fn start_listeners<'o, O, R: Threads + Wait + Eprint + Clock + Sync>(
     rt: &'o R,
