@@ -52,7 +52,7 @@ fn attend_on<
     let mut is_receiver = may_receive(shift, number);
     for _ in shift.rt.forever() {
         if is_receiver && start_workers(shift, scope, connection).is_err() {
-            return Some(Reason::NoMemory);
+            return Some(Reason::NoThread);
         }
         connection.wait_to_serve(shift.rt);
         is_receiver = match connection.next(shift.rt) {
@@ -134,7 +134,7 @@ fn ended<S: StableStore, L: Begins, R: Wait + Eprint>(
 }
 
 /// The session is over.
-fn end<S: StableStore, L: Begins, R: Wait + Eprint>(
+pub(crate) fn end<S: StableStore, L: Begins, R: Wait + Eprint>(
     shift: &Shift<'_, S, L, R>,
     number: u8,
     reason: Reason,

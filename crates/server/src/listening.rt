@@ -1,7 +1,6 @@
 //! Where ESMEs connect.
 
 use crate::connection::Connection;
-use crate::ending::Ending;
 use crate::house::House;
 use crate::notice::Notice;
 use crate::starting::{Arrival, start_reader, start_writer};
@@ -36,7 +35,8 @@ pub(crate) fn listen_on<'o, O, R: Threads + Wait + Eprint + Clock + Sync>(
                 if let Some(arrival) = admitted(rt, house, station, stream, address)
                     && start(rt, outer, house, &arrival).is_err()
                 {
-                    house.end.set(rt, Ending::Threads);
+                    // Who serves it sees its end.
+                    arrival.connection.lose(rt);
                 }
             }
             Err(_) => thread::sleep(rt, Duration::from_millis(PAUSE)),

@@ -21,6 +21,8 @@ pub(crate) enum Reason {
     Failed,
     /// There was no memory for what it needed.
     NoMemory,
+    /// A thread that it needs could not be started.
+    NoThread,
     /// The node or the whole server ends.
     CentreEnds,
 }
@@ -34,6 +36,7 @@ impl fmt::Display for Reason {
             Reason::WrongLength => "a wrong command_length",
             Reason::Failed => "the connection failed, or was idle",
             Reason::NoMemory => "there was not enough memory",
+            Reason::NoThread => "no thread could be started",
             Reason::CentreEnds => "the centre ends",
         })
     }

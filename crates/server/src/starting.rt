@@ -1,12 +1,13 @@
 //! The threads of a server, as they are started.
 
-use crate::attending::attend;
+use crate::attending::{attend, end};
 use crate::carrying::carry_on;
 use crate::connection::{Connection, WORKERS};
 use crate::ending::Ending;
 use crate::house::House;
 use crate::listening::listen_on;
 use crate::living::live_on;
+use crate::notice::Reason;
 use crate::reading::read_all;
 use crate::shared::Shared;
 use crate::shift::Shift;
@@ -163,7 +164,7 @@ pub(crate) struct Arrival {
     pub(crate) number: u8,
 }
 
-/// Starts the thread that serves the session of a connection. If none can be started, the server ends.
+/// Starts the thread that serves the session of a connection. If none can be started, the session ends.
 pub(crate) fn start_attendant<
     's,
     E,
@@ -173,6 +174,7 @@ pub(crate) fn start_attendant<
 >(shift: &Shift<'s, S, L, R>, scope: &'s Scope<'s, E>, arrival: Arrival) {
     let (rt, shared) = (shift.rt, shift.shared);
     let (station, life) = (shift.station, shift.life);
+    let number = arrival.number;
     match scope.spawn(move || {
         attend(
             &Shift {
@@ -186,7 +188,7 @@ pub(crate) fn start_attendant<
         )
     }) {
         Ok(_) => {}
-        Err(_) => shift.shared.house.end.set(shift.rt, Ending::Threads),
+        Err(_) => end(shift, number, Reason::NoThread),
     }
 }
 
