@@ -11,8 +11,7 @@ use crate::opening::{Configured, listen_all, open_all, open_stores, read_file};
 use config::{Config, NodeConfig};
 use node_stores::NodeStore;
 use server::{
-    Beginning, Defaults, Doors, Ending, LAST_INCARNATION, Life, MOST_SEATS, Served, Settings,
-    VisibleText, serve,
+    Beginning, Defaults, Doors, Ending, LAST_INCARNATION, Life, MOST_SEATS, Served, Settings, serve,
 };
 use std::alloc::{AllocError, Global};
 use std::marker::Brand;
@@ -27,7 +26,7 @@ use std::thread::Threads;
 /// the file is told first, then those of the configuration, of stores that can't be opened, of the listeners, and of what the stores hold. So a start that fails
 /// at a listener uses up no incarnation. Once it serves, Ended or Journal tell why it ended, if it was not asked to.
 ///
-/// The lines that tell that it serves come once all stores are open, and all nodes listen.
+/// The lines that tell where nodes listen come once all stores are open, and all nodes listen; the line that the centre serves once all nodes may be served.
 pub fn serve_file<
     R: Threads
         + Wait
@@ -103,15 +102,11 @@ fn ended(served: Served<NodeStore>) -> Result<u64, ServeFault> {
 /// From which incarnation on of 9,999 an operator is told at each start how many are left.
 const LATE_INCARNATION: u16 = 9_000;
 
-/// Tells where each node listens, in which incarnation, and where its store is, and that the centre serves.
+/// Tells where each node listens, in which incarnation, and where its store is.
 fn tell_start<R: Eprint>(rt: &R, config: &Config, lives: &[Life]) {
     for (node, life) in config.nodes.iter().zip(lives) {
         tell_node(rt, node, life);
     }
-    let nodes = config.nodes.len();
-    let system_id = VisibleText(config.system_id.octets());
-    let word = if nodes == 1 { "node" } else { "nodes" };
-    let _ = eprintln!(rt; "serving: system_id {system_id}, {nodes} {word}");
 }
 
 /// Tells where a node listens, in which incarnation, and where its store is.

@@ -2,7 +2,7 @@
 
 use crate::ending::{End, Ending};
 use crate::log::Log;
-use crate::notice::Notice;
+use crate::notice::{Notice, VisibleText};
 use crate::pace::Pace;
 use crate::station::{Station, Wake};
 use crate::ticking::{milliseconds, milliseconds_since};
@@ -49,6 +49,8 @@ pub(crate) struct Counters {
     newest: AtomicU64,
     /// How often it was looked whether the server ends, since counts were told.
     looks: AtomicU64,
+    /// Whether it was told that all nodes may be served.
+    serves: AtomicBool,
     /// How many parts of the journal were closed, the entries of the last one and of all, and the final states that were told before it.
     parts: AtomicU64,
     entries: AtomicU64,
@@ -64,6 +66,7 @@ impl Counters {
             ended: AtomicU64::new(0),
             newest: AtomicU64::new(0),
             looks: AtomicU64::new(0),
+            serves: AtomicBool::new(false),
             parts: AtomicU64::new(0),
             entries: AtomicU64::new(0),
             all_entries: AtomicU64::new(0),
@@ -164,6 +167,24 @@ impl House {
         self.stations.iter().all(|station| {
             station.node.number() >= node.number() || station.has_begun.load(Ordering::SeqCst)
         })
+    }
+
+    /// Tells the operator that the centre serves, once all its nodes may be served for the first time.
+    pub(crate) fn tell_serving<R: Wait + Eprint>(&self, rt: &R) {
+        let may_serve = self
+            .stations
+            .iter()
+            .all(|station| station.has_begun.load(Ordering::SeqCst));
+        if !may_serve || self.counters.serves.swap(true, Ordering::SeqCst) {
+            return;
+        }
+        let nodes = self.stations.len();
+        let system_id = VisibleText(self.config.system_id.octets());
+        let word = if nodes == 1 { "node" } else { "nodes" };
+        self.log.must_tell(
+            rt,
+            format_args!("serving: system_id {system_id}, {nodes} {word}"),
+        );
     }
 
     /// Tells the operator of a session.

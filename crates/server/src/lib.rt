@@ -35,5 +35,4 @@ pub use mc_types::LAST_INCARNATION;
 pub use node_workers::{
     Defaults, Life, MOST_SEATS, Node, StartFault, open_nodes, opened_nodes_begin,
 };
-pub use notice::VisibleText;
 pub use serving::{Beginning, Doors, Served, Settings, serve};

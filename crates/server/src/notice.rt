@@ -110,7 +110,7 @@ impl fmt::Display for Notice {
 
 /// Octets as text: those that are no visible ASCII as `.`.
 #[derive(Clone, Copy)]
-pub struct VisibleText<'a>(pub &'a [u8]);
+pub(crate) struct VisibleText<'a>(pub &'a [u8]);
 
 impl fmt::Display for VisibleText<'_> {
     fn fmt<W: fmt::Write>(&self, f: &mut fmt::Formatter<W>) -> fmt::Result {

@@ -86,8 +86,11 @@ pub(crate) fn tick_first<S: StableStore, L: Begins, R: Wait + Eprint + Clock>(
 
 /// The node may be served, unless its first tick is still to come, or its rounds are waited for in the next part of the journal.
 fn begin<S: StableStore, L: Begins, R: Wait + Eprint>(shift: &Shift<'_, S, L, R>) {
-    if shift.station.has_ticked.load(Ordering::SeqCst) && !shift.is_over() {
-        shift.station.has_begun.store(true, Ordering::SeqCst);
+    if shift.station.has_ticked.load(Ordering::SeqCst)
+        && !shift.is_over()
+        && !shift.station.has_begun.swap(true, Ordering::SeqCst)
+    {
+        shift.shared.house.tell_serving(shift.rt);
     }
 }
 
@@ -163,6 +166,7 @@ fn wait_for_rounds<S: StableStore, L: Begins, R: Wait + Eprint + Clock>(
     let house = &shift.shared.house;
     let rounds = &shift.station.rounds;
     let mut vain = 0u32;
+    let mut looks = 0u32;
     let mut come = house.come();
     for _ in shift.rt.forever() {
         let Some(awaited) = rounds.awaited() else {
@@ -177,6 +181,7 @@ fn wait_for_rounds<S: StableStore, L: Begins, R: Wait + Eprint + Clock>(
             continue;
         }
         thread::sleep(shift.rt, Duration::from_millis(PIECE));
+        looks = tell_progress(shift, looks);
         let now = house.come();
         vain = if now == come {
             vain.saturating_add(1)
@@ -191,6 +196,29 @@ fn wait_for_rounds<S: StableStore, L: Begins, R: Wait + Eprint + Clock>(
     if shift.station.is_anew.swap(false, Ordering::SeqCst) {
         shift.tell_node("through with its first tick");
     }
+}
+
+/// How often it is looked whether packets come before an operator is told how many have: for five seconds.
+const TOLD_LOOKS: u32 = 250;
+
+/// It was looked so often whether the rounds of a node are through: each five seconds an operator is told how far they are, if it is not served before that. How often
+/// it was looked then.
+fn tell_progress<S: StableStore, L: Begins, R: Wait + Eprint>(
+    shift: &Shift<'_, S, L, R>,
+    looks: u32,
+) -> u32 {
+    let looks = looks.saturating_add(1);
+    if looks % TOLD_LOOKS == 0 && !shift.station.has_begun.load(Ordering::SeqCst) {
+        let house = &shift.shared.house;
+        let node = shift.node().number();
+        let come = house.first_left().saturating_sub(1);
+        let sent = house.newest();
+        house.log.line(
+            shift.rt,
+            format_args!("node {node}: not served yet: {come} of {sent} packets have come"),
+        );
+    }
+    looks
 }
 
 /// Waits until this is so, or the life is over, or so many looks were made.
