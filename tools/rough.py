@@ -223,7 +223,7 @@ class Rough:
         self.check("taken_for_a_deaf_one", all(self.deaf_ids), self.deaf_ids)
         self.taken += self.deaf_ids
         self.told("with a deaf receiver", before)
-        pushed, is_ended = self.push(deaf, pdus.frame(pdus.ENQUIRE_LINK, 1) * 1_000)
+        pushed, is_ended = deaf.push_unread(pdus.frame(pdus.ENQUIRE_LINK, 1) * 1_000, MOST_PUSHED)
         self.told("with a deaf receiver that asks", before)
         print(f"   a deaf receiver pushed {pushed / 1e6:.1f} MB", flush=True)
         self.check("deaf_one_has_to_wait", is_ended or pushed < MOST_PUSHED, pushed)
@@ -240,19 +240,6 @@ class Rough:
         came = len({one["short_message"] for one in heir.messages()})
         self.check("messages_of_a_deaf_one_come", came == DEAF_MESSAGES, came)
         heir.close()
-
-    def push(self, esme, octets):
-        """Sends these octets again and again without reading: how many could be sent until it had to wait for two seconds, and whether the connection ended."""
-        sent, last = 0, time.monotonic()
-        esme.socket.settimeout(0)
-        while sent < MOST_PUSHED and time.monotonic() < last + 2:
-            try:
-                sent, last = sent + esme.socket.send(octets[sent % len(octets):]), time.monotonic()
-            except NOT_READY:
-                time.sleep(0.01)
-            except OSError:
-                return sent, True
-        return sent, False
 
     def is_cut(self, esme, seconds):
         """Whether the connection ends in time, without a read."""
@@ -335,7 +322,7 @@ class Rough:
         esme = self.connected(1)
         esme.socket.setsockopt(socket.SOL_SOCKET, socket.SO_SNDBUF, 65_536)
         esme.send(b"\xff\xff\xff\xff")
-        pushed, is_ended = self.push(esme, bytes(65_536))
+        pushed, is_ended = esme.push_unread(bytes(65_536), MOST_PUSHED)
         print(f"   a PDU without an end: {pushed / 1e6:.1f} MB were taken", flush=True)
         self.check("pdu_without_an_end_is_ended", is_ended, pushed)
         halves = [self.connected(1) for _ in range(50)]

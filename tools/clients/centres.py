@@ -31,12 +31,12 @@ def configuration(stores, ports, accounts, own):
 
 
 @contextlib.contextmanager
-def centre(program, nodes, accounts, keep=False, **own):
-    """A `Serving` over so many nodes on disk, which is not started yet, and their ports."""
+def centre(program, nodes, accounts, keep=False, kind=Serving, **own):
+    """A `Serving`, or another kind of it, over so many nodes on disk, which is not started yet, and their ports."""
     folder, ports = pathlib.Path(tempfile.mkdtemp(prefix="centre-")), free_ports(nodes)
     (folder / STORES).mkdir()
     (folder / "centre.toml").write_text(configuration(folder / STORES, ports, accounts, own))
-    serving = Serving(program, folder / "centre.toml", folder)
+    serving = kind(program, folder / "centre.toml", folder)
     try:
         yield serving, ports
     finally:

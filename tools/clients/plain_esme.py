@@ -17,10 +17,13 @@ class Ended(Exception):
 class Esme:
     """One connection. It answers each deliver_sm with `status`, or not at all if that is None; `delivered` has their fields."""
 
-    def __init__(self, port, receive_buffer=None):
+    def __init__(self, port, receive_buffer=None, segment=None):
+        """`segment`: how many octets a segment has at most. With small ones the system takes less of what the centre writes and nobody reads."""
         self.socket = socket.socket()
         if receive_buffer:
             self.socket.setsockopt(socket.SOL_SOCKET, socket.SO_RCVBUF, receive_buffer)
+        if segment:
+            self.socket.setsockopt(socket.IPPROTO_TCP, socket.TCP_MAXSEG, segment)
         self.socket.settimeout(10)
         self.socket.connect(("127.0.0.1", port))
         self.socket.setsockopt(socket.IPPROTO_TCP, socket.TCP_NODELAY, 1)
@@ -55,6 +58,20 @@ class Esme:
     def send(self, octets):
         self.socket.settimeout(10)
         self.socket.sendall(octets)
+
+    def push_unread(self, octets, most):
+        """Sends these octets again and again without reading: how many could be sent until that were so many or it had to wait for two seconds, and whether the
+        connection ended."""
+        sent, last = 0, time.monotonic()
+        self.socket.settimeout(0)
+        while sent < most and time.monotonic() < last + 2:
+            try:
+                sent, last = sent + self.socket.send(octets[sent % len(octets):]), time.monotonic()
+            except NOT_READY:
+                time.sleep(0.01)
+            except OSError:
+                return sent, True
+        return sent, False
 
     def request(self, command, body=b""):
         """Sends a request, and gives its sequence_number."""
