@@ -46,7 +46,7 @@ from plain_esme import Ended, Esme, wait
 from ports import free_ports, is_open
 from serving import SERVING, Serving
 
-NODES, START_SECONDS, END_SECONDS, ANSWER_SECONDS = 3, 20, 30, 10
+NODES, START_SECONDS, END_SECONDS = 3, 20, 30
 ACCOUNTS = {"sender": "9", "getter": "1", "absent": "2"}
 
 # slow_reader: how many enquire_links come before the message. First so many that what is written stands still; then as many as the system took answers of, and
@@ -66,7 +66,7 @@ ANEW = re.compile(r"node \d+: (it has few message_ids left; it starts anew|start
 
 # clock: in what time a message comes that is scheduled so; how long the clock is back, and ahead.
 LIBRARIES, FAKETIME, CLOCK = pathlib.Path("/usr/lib"), "*/faketime/libfaketimeMT.so.1", re.compile(r"clock: .+")
-SOON, SOON_SECONDS, BACK_SECONDS, AHEAD_SECONDS = "000000000020000R", 40, 120, 5
+SOON, SOON_SECONDS, BACK_SECONDS, AHEAD_SECONDS, TICK_SECONDS = "000000000020000R", 40, 120, 5, 12
 
 # silent_log: the size of the pipe, and how many connections fill it.
 PIPE, LOGGED = 4096, 200
@@ -139,7 +139,7 @@ class Case(NamedTuple):
     message_id: str
 
 
-# What an operator does to the stores, each with what `serve` has to name: nodes, and the file or the key.
+# What an operator does to the stores, or to the configuration over them; `older` has the stores of a moment before the messages.
 
 def files_of(stores, node):
     return list(stores.glob(f"{node}.db*"))
@@ -201,6 +201,7 @@ def configure(serving, nodes):
 
 
 class Slip(NamedTuple):
+    """What is done to the stores or to the configuration, and what the one line of `serve` has to name: one of these nodes, and the file or the key."""
     does: Callable
     nodes: str
     file: str = r"\d\.db"
@@ -372,7 +373,7 @@ class Slips:
                 came = wait([sender, getter], lambda: getter.messages(b"no step"), SOON_SECONDS)
                 self.check("clock_delivered_before_any_step", sent and came, (sent, came))
                 self.clock_back(clock, serving, sender, getter)
-                self.clock_ahead(clock, serving, sender, getter)
+                self.clock_ahead(clock, serving, sender, getter, ports[2])
 
     def step(self, clock, offset):
         """The clock of the system steps: who reads the file sees the one text or the other."""
@@ -393,9 +394,11 @@ class Slips:
         self.check("clock_back_is_told", serving.says(CLOCK), serving.said)
         wait([sender, getter], lambda: False, begun + BACK_SECONDS - time.monotonic())
         self.step(clock, "+0")
+        # Each node looks at the clock at a tick, for which it waits ten seconds at most.
+        wait([sender, getter], lambda: False, TICK_SECONDS)
         self.check("clock_back_ends", self.ids_are(sender, ids, pdus.DELIVERED), serving.said)
 
-    def clock_ahead(self, clock, serving, sender, getter):
+    def clock_ahead(self, clock, serving, sender, getter, port):
         ids = [sender.submitted("2", b"ahead %d" % number, registered=0) for number in range(5)]
         told = sum(bool(CLOCK.fullmatch(line)) for line in serving.lines)
         seen = []
@@ -405,6 +408,8 @@ class Slips:
             while time.monotonic() < end:
                 seen.append(self.ids_are(sender, ids, pdus.ENROUTE))
                 wait([sender, getter], lambda: False, 0.5)
+                # Each connection has the clock looked at, whenever the next tick is.
+                Esme(port).close()
         self.check("clock_ahead_messages_stay", all(ids) and all(seen), (ids, seen))
         self.check("clock_ahead_is_told", sum(bool(CLOCK.fullmatch(line)) for line in serving.lines) > told, serving.said)
 
@@ -554,7 +559,7 @@ class Slips:
         return serving.process.returncode == 1 and NO_THREAD.fullmatch(serving.lines[-1]), serving.said()
 
     def bind_of(self, stack, port):
-        """What a bind is answered: a status, `ended`, or `nothing` in time."""
+        """What a bind is answered: a status; `ended` if the connection was closed, or none came about; `nothing` if none came in time."""
         try:
             found = stack.enter_context(Esme(port)).bind("getter", PASSWORD)
         except (Ended, OSError):
