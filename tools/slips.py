@@ -10,11 +10,11 @@ PROGRAM is the built program. Each part starts it over files of its own, in thre
     refused_submits     of a node with sixty serials a hundred submit_sm are refused: it does not start anew, and thirty good ones get serials one after another
     taken_port          somebody has the port of node 2: each of twenty starts (a hundred with --long) says so, ends, and uses up no incarnation
     clock               the system's clock alone goes back by an hour for two minutes, then ahead by thirty days for five seconds (needs Debian's faketime)
-    silent_log          nobody reads standard error, and its pipe is full: binds and answers go on
+    silent_log          nobody reads standard error, and its pipe is full: binds and answers go on, and what was left out is told to who reads later
     closed_descriptors  serve is started without standard input, output or error: an ESME reads PDUs alone, no store has a line of the log, and it starts again
     stores              a store is missing, empty, older, another node's or two nodes' own, its key is misspelled, or there are fewer or more nodes than before:
                         each start is refused by status 1 and one line that names node and file, and no file is changed; a start is killed between two stores
-    threads             the user of serve may start few more threads: it serves who is bound, or ends and says why (needs root)
+    threads             the user of serve may start few more threads: who is bound goes on, and somebody new once others have gone (needs root)
 
 It prints `ok NAME` or `not ok NAME: SEEN` for each check, `left out: ..` for what this machine lacks, figures in lines that begin with spaces, and at last
 `N checks, M wrong`; the exit status is 1 if any is wrong. It takes some six minutes, uses the standard library alone, and ends what it started.
@@ -68,8 +68,8 @@ ANEW = re.compile(r"node \d+: (it has few message_ids left; it starts anew|start
 LIBRARIES, FAKETIME, CLOCK = pathlib.Path("/usr/lib"), "*/faketime/libfaketimeMT.so.1", re.compile(r"clock: .+")
 SOON, SOON_SECONDS, BACK_SECONDS, AHEAD_SECONDS, TICK_SECONDS = "000000000020000R", 40, 120, 5, 12
 
-# silent_log: the size of the pipe, and how many connections fill it.
-PIPE, LOGGED = 4096, 200
+# silent_log: the size of the pipe, and how many connections have more lines than may wait; and what is said of those that were left out.
+PIPE, LOGGED, TOLD_SECONDS, LOST = 4096, 1000, 10, re.compile(r"log: \d+ lines were not told")
 
 # closed_descriptors: what is closed, in the words of a shell; and what is in lines of the log alone.
 CLOSED = {"all": "<&- >&- 2>&-", "input_and_output": "<&- >&-", "error": "2>&-"}
@@ -78,8 +78,8 @@ LOG_WORDS = (b"listens on", b"serving:", b"connected from", b"bound as")
 # stores: how long after its first file a start is killed.
 PAUSES = (0, 0, 0, 0.001, 0.002, 0.005, 0.01, 0.02)
 
-# threads: the user that serves and does nothing else, how many more threads it may start, how many bind then, and what is said if it ends.
-USER, MORE_THREADS, BINDS, NO_THREAD = 54_321, 20, 6, re.compile(r"a thread can't be started, or there was not enough memory for one")
+# threads: the user that serves and does nothing else, how many more threads it may start, how many bind then, and in what time their threads end.
+USER, MORE_THREADS, BINDS, GONE_SECONDS = 54_321, 45, 6, 3
 
 
 class Deaf(Client):
@@ -129,6 +129,10 @@ class Unread(Serving):
             self.lines.append(line.rstrip("\n"))
             if SERVING.fullmatch(self.lines[-1]):
                 return
+
+    def read_on(self):
+        self.reader = threading.Thread(target=super().read, args=(self.process,), daemon=True)
+        self.reader.start()
 
 
 class Case(NamedTuple):
@@ -423,8 +427,9 @@ class Slips:
         with self.centre(kind=Unread) as (serving, ports), contextlib.ExitStack() as stack:
             started(serving)
             stands = stack.enter_context(bound(ports[0], "sender", pdus.BIND_TRANSMITTER))
-            for number in range(LOGGED):
-                with contextlib.suppress(OSError):
+            # If it takes no more connections, these are enough.
+            with contextlib.suppress(OSError):
+                for number in range(LOGGED):
                     Esme(ports[number % NODES]).close()
             time.sleep(1)
             held = struct.unpack("i", fcntl.ioctl(serving.process.stderr, termios.FIONREAD, bytes(4)))[0]
@@ -433,6 +438,9 @@ class Slips:
                 self.check(f"silent_log_serves_at_{node}", *self.served(port))
             sent = stands.submitted("2", b"silent", registered=0)
             self.check("silent_log_answers_go_on", sent and stands.state(sent)[2] == pdus.ENROUTE, sent)
+            serving.read_on()
+            self.check("silent_log_tells_what_is_left_out", serving.says(LOST, TOLD_SECONDS), serving.said)
+            self.check("silent_log_ends_in_order", serving.end(END_SECONDS) == 0, serving.said)
 
     def closed_descriptors(self):
         for name, closed in CLOSED.items():
@@ -534,9 +542,14 @@ class Slips:
             ids = self.ids(ports, b"before")
             stands = stack.enter_context(bound(ports[0], "sender"))
             self.few_threads(as_user, serving.process.pid)
-            seen = [self.bind_of(stack, ports[number % NODES]) for number in range(BINDS)]
-            print(f"   {BINDS} binds were answered {seen}", flush=True)
-            self.check("threads_serves_on_or_ends", *self.serves_on_or_ends(serving, stands))
+            with contextlib.ExitStack() as others:
+                seen = [self.bind_of(others, ports[number % NODES]) for number in range(BINDS)]
+                print(f"   {BINDS} binds were answered {seen}", flush=True)
+                sent = stands.submitted("2", b"beside", registered=0)
+                self.check("threads_who_is_bound_goes_on", sent, serving.said)
+            time.sleep(GONE_SECONDS)
+            for node, port in enumerate(ports, 1):
+                self.check(f"threads_somebody_new_at_{node}", *self.served(port))
             serving.kill()
             started(serving)
             with bound(ports[1], "sender", pdus.BIND_TRANSMITTER) as esme:
@@ -547,16 +560,6 @@ class Slips:
         most = len(os.listdir(f"/proc/{process}/task")) + MORE_THREADS
         subprocess.run([*as_user, "prlimit", f"--pid={process}", f"--nproc={most}:{most}"], check=True)
         print(f"   its user has {most} threads at most", flush=True)
-
-    def serves_on_or_ends(self, serving, stands):
-        """Whether who is bound is served, or it ends by itself and says why; and what was seen."""
-        with contextlib.suppress(Ended, OSError):
-            if sent := stands.submitted("2", b"beside", registered=0):
-                return True, sent
-        with contextlib.suppress(subprocess.TimeoutExpired):
-            serving.process.wait(END_SECONDS)
-        serving.kill()
-        return serving.process.returncode == 1 and NO_THREAD.fullmatch(serving.lines[-1]), serving.said()
 
     def bind_of(self, stack, port):
         """What a bind is answered: a status; `ended` if the connection was closed, or none came about; `nothing` if none came in time."""
