@@ -52,8 +52,8 @@ def query_body(message_id, source):
     return text(message_id) + bytes([1, 1]) + text(source)
 
 
-def cancel_body(message_id, source):
-    return text("") + text(message_id) + bytes([1, 1]) + text(source) + bytes(2) + text("")
+def cancel_body(message_id, source, destination=""):
+    return text("") + text(message_id) + bytes([1, 1]) + text(source) + bytes([1, 1] if destination else [0, 0]) + text(destination)
 
 
 class Reader:

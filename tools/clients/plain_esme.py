@@ -17,7 +17,7 @@ class Ended(Exception):
 class Esme:
     """One connection. It answers each deliver_sm with `status`, or not at all if that is None; `delivered` has their fields."""
 
-    def __init__(self, port, receive_buffer=None, segment=None):
+    def __init__(self, port, receive_buffer=None, segment=None, host="127.0.0.1"):
         """`segment`: how many octets a segment has at most. With small ones the system takes less of what the centre writes and nobody reads."""
         self.socket = socket.socket()
         if receive_buffer:
@@ -25,7 +25,7 @@ class Esme:
         if segment:
             self.socket.setsockopt(socket.IPPROTO_TCP, socket.TCP_MAXSEG, segment)
         self.socket.settimeout(10)
-        self.socket.connect(("127.0.0.1", port))
+        self.socket.connect((host, port))
         self.socket.setsockopt(socket.IPPROTO_TCP, socket.TCP_NODELAY, 1)
         self.buffer, self.sequence, self.is_ended = bytearray(), 0, False
         self.answers, self.delivered, self.nacks, self.status = {}, [], [], pdus.OK
