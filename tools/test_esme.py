@@ -6,16 +6,18 @@ request."""
 import contextlib
 import io
 import pathlib
+import re
 import socket
 import sys
 import threading
 import unittest
 
 import esme
-from chart_pdus import STATUSES
+from chart_pdus import BODIES, STATUSES, split
 
 ROOT = pathlib.Path(__file__).resolve().parent.parent
 ROWS, EXAMPLES = ROOT / "crates/centre/data/rows", ROOT / "examples"
+PAGE = (ROOT / "docs/ESME.md").read_text()
 ENOUGH = 5
 
 
@@ -182,6 +184,43 @@ class Texts(Asking):
         # With the other three an ESME answers a deliver_sm.
         self.assertEqual(set(STATUSES) - set(esme.HINTS), {0x00, 0x64, 0x65, 0x66})
         self.assertEqual(set(esme.HINTS) - set(STATUSES), set())
+
+
+class Page(unittest.TestCase):
+    """What docs/ESME.md has of Python, and its table of statuses."""
+    def setUp(self):
+        self.code = {}
+        exec("\n".join(re.findall("```python\n(.*?)```", PAGE, re.DOTALL)), self.code)
+
+    def test_a_submit_sm(self):
+        octets = self.code["submit_sm"](2, b"144", b"155", 0, 0, b"Hi", b"")
+        self.assertEqual(octets.hex(), row("delivered_with_a_receipt")[0][1])
+        (esm_class, text, parameters), = self.code["by_payload"](255 * b"a")
+        octets = self.code["submit_sm"](2, b"144", b"155", 0, esm_class, text, parameters, 0)
+        self.assertEqual(octets.hex(), row("payload_of_255_octets")[0][1])
+
+    def test_parts(self):
+        text = bytes(range(256)) + b"and more"
+        headers = [(0x40, bytes([5, 0, 3, 7, 2, number]) + part, b"") for number, part in ((1, text[:134]), (2, text[134:]))]
+        self.assertEqual(self.code["by_header"](text, 7), headers)
+        for number, (esm_class, part, parameters) in enumerate(self.code["by_parameters"](text, 7), 1):
+            self.assertEqual((esm_class, part), (0, text[134 * (number - 1):134 * number]))
+            self.assertEqual(parameters.hex(), f"020c00020007020e000102020f0001{number:02x}")
+            found, behind = split(BODIES["submit_sm"], self.code["submit_sm"](2, b"144", b"155", 8, esm_class, part, parameters)[16:])
+            self.assertEqual((found["short_message"], found["data_coding"], behind), (part, b"\x08", b""))
+
+    def test_receipts(self):
+        for name, place, told in [
+            ("delivered_with_a_receipt", 3, (b"1000100001", b"001", b"2401310000", b"2401310000", b"DELIVRD", b"000", b"Hi")),
+            ("receipt_on_failure_only_expired", 2, (b"1000100001", b"000", b"2401310000", b"2402030000", b"EXPIRED", b"000", b"Hi")),
+            ("eight_failed_attempts", -1, (b"1000100001", b"000", b"2401310000", b"2401310028", b"UNDELIV", b"100", b"Hi")),
+        ]:
+            found, _ = split(BODIES["deliver_sm"], bytes.fromhex(row(name)[1][place])[16:])
+            self.assertEqual(self.code["RECEIPT"].fullmatch(found["short_message"]).groups(), told)
+
+    def test_statuses(self):
+        self.assertEqual(set(re.findall(r"^\| 0x([0-9A-F]{2}) (ESME_\w+)", PAGE, re.MULTILINE)),
+                         {(f"{code:02X}", STATUSES[code]) for code in esme.HINTS})
 
 
 if __name__ == "__main__":
