@@ -42,11 +42,21 @@ impl Lines {
         self.waiting.is_empty() && self.lost == 0 && !self.is_shut
     }
 
-    /// Puts a line behind the others, or counts it as lost.
-    fn put(&mut self, line: String) {
-        if self.waiting.push_back(line).is_err() {
-            self.lost = self.lost.saturating_add(1);
+    /// Puts a line behind the others. It is lost if so many wait, or if there is no memory.
+    fn put(&mut self, line: String, most: usize) {
+        if self.waiting.len() >= most {
+            drop(line);
+            self.lose();
+            return;
         }
+        if self.waiting.push_back(line).is_err() {
+            self.lose();
+        }
+    }
+
+    /// Another line is lost.
+    fn lose(&mut self) {
+        self.lost = self.lost.saturating_add(1);
     }
 }
 
@@ -84,8 +94,8 @@ impl Log {
         let text = format!(in self.alloc; "{line}");
         let mut lines = self.lines.lock(rt);
         match text {
-            Ok(text) if lines.waiting.len() < most => lines.put(text),
-            _ => lines.lost = lines.lost.saturating_add(1),
+            Ok(text) => lines.put(text, most),
+            Err(_) => lines.lose(),
         }
         drop(lines);
         self.changed.notify_all();

@@ -276,20 +276,40 @@ impl Site {
     /// nothing is given.
     fn give<R: Wait>(&mut self, rt: &R, job: Job) -> Result<bool, AllocError> {
         let number = job.pushed.number;
-        let Some(connection) = self.connections.get(&number) else {
+        let Some(place) = self.free_place(rt, number) else {
             return Ok(false);
         };
-        let Some(place) = connection.free_place(rt) else {
-            return Ok(false);
-        };
-        let _ = self
-            .carried
-            .insert(key_of(job.slot), Carriage { number, place })?;
-        let is_given = connection.give(rt, place, job);
-        if !is_given {
-            let _ = self.carried.remove(&key_of(job.slot));
+        let slot = job.slot;
+        self.note(slot, Carriage { number, place })?;
+        if self.hand(rt, place, job) {
+            return Ok(true);
         }
-        Ok(is_given)
+        self.forget(slot);
+        Ok(false)
+    }
+
+    /// The delivery of the attempt in a slot is under way there. An `Err` is want of memory.
+    fn note(&mut self, slot: Slot, carriage: Carriage) -> Result<(), AllocError> {
+        let _ = self.carried.insert(key_of(slot), carriage)?;
+        Ok(())
+    }
+
+    /// The delivery of the attempt in a slot is not under way.
+    fn forget(&mut self, slot: Slot) {
+        let _ = self.carried.remove(&key_of(slot));
+    }
+
+    /// Hands a delivery to the worker of a place of its session; whether it is given.
+    fn hand<R: Wait>(&self, rt: &R, place: usize, job: Job) -> bool {
+        match self.connections.get(&job.pushed.number) {
+            Some(connection) => connection.give(rt, place, job),
+            None => false,
+        }
+    }
+
+    /// The place of a worker of a session that is free; none if no one is.
+    fn free_place<R: Wait>(&self, rt: &R, number: u8) -> Option<usize> {
+        self.connections.get(&number)?.free_place(rt)
     }
 
     /// Whether some session of an account may receive and knows optional parameters.
@@ -327,7 +347,7 @@ impl Site {
 
     /// A worker is through with its delivery, whose deliver_sm went out, or did not.
     pub(crate) fn delivered(&mut self, connection: &Connection, job: &Job, is_sent: bool) {
-        let _ = self.carried.remove(&key_of(job.slot));
+        self.forget(job.slot);
         if is_sent {
             self.tally.deliveries = self.tally.deliveries.saturating_add(1);
         } else if self.is_at(job.pushed.number, connection) {
