@@ -1,6 +1,6 @@
 -- What is noted of the messages that are listed, as messages are put, changed and looked at.
 use Rattle.std.proofs.Common.{◌≡◌, ◌⊎◌, ℕ, Bool, true, false, List, map, ◌<◌, Option, Some, None, refl, sym, ap, subst, ◌∙◌, inl, inr, arith}
-use Rattle.std.specs.Prelude.{◌==◌, ◌||◌, filter, is_some, not, if◌then◌else◌}
+use Rattle.std.specs.Prelude.{◌==◌, filter, is_some, not, if◌then◌else◌}
 use Rattle.std.proofs.lemmas.Bool.{cases_Bool, eq-eqb, or_right, true≢false}
 use Rattle.std.proofs.lemmas.Bool.Decides.{Decides-eqb, nat_tests}
 use Rattle.mc_model.specs.synod.Lists.{In}

@@ -1,8 +1,7 @@
 -- Tests of numbers that are keys.
 use Rattle.std.proofs.Common.{◌≡◌, ℕ, true, false, arith}
-use Rattle.std.specs.Ordering.{nat_cmp, is_eq, match_ordering}
-use Rattle.std.specs.declared.cmp.Ordering.{Ordering}
-use Rattle.std.specs.declared.cmp.Ordering.TheVariants.{Less, Equal, Greater}
+use Rattle.std.specs.Ordering.{nat_cmp, is_eq}
+use Rattle.std.specs.declared.cmp.Ordering.TheVariants.{Equal}
 use Rattle.std.proofs.lemmas.Bool.Decides.{nat_tests}
 
 pub equal : (j k : ℕ) → nat_cmp j k ≡ Equal → j ≡ k

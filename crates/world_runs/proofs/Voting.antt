@@ -8,11 +8,10 @@ use Rattle.mc_model.specs.synod.Packet.{Packet, slot_of}
 use Rattle.mc_model.specs.node.Act.{Act, Receives, Restarts}
 use Rattle.mc_model.specs.node.Actor.{Actor}
 use Rattle.mc_model.specs.node.Effect.{actor_by}
-use Rattle.mc_model.specs.node.Input.{Arrival, Crash, Delivery, Grant, Input, Refusal, Response, Restart, Tick}
 use Rattle.mc_model.specs.node.Knowledge.{IsLearned}
 use Rattle.mc_model.specs.node.Outputs.{Outputs}
 use Rattle.mc_model.specs.cluster.Fate.{TellsOf}
-use Rattle.mc_model.specs.cluster.Steps.{AreSteps, CameTo, Cluster, IsStep, Step, acts_in, by_node, setup_of}
+use Rattle.mc_model.specs.cluster.Steps.{AreSteps, Cluster, IsStep, Step, acts_in, by_node, setup_of}
 use Rattle.mc_model.specs.cluster.World.{IsRun, World, reached, start}
 use Rattle.mc_laws.proofs.invariant.Answers.{runs_to}
 use Rattle.mc_laws.proofs.step.Behind.{steps_run}
@@ -25,7 +24,7 @@ use Rattle.node_laws.specs.Clusters.{MayHappen, NodeInput, StatesFinal, kept_rea
 use Rattle.node_laws.proofs.cluster.Chosen.{none_mapped}
 use Rattle.node_laws.proofs.cluster.Clustered.{clustered, one_more}
 use Rattle.node_laws.proofs.cluster.Sources.{IsCutAt, IsStepOf, cut_at, in_older, step_of, told_by}
-use Rattle.mc_laws.proofs.step.Receiving.{ComesWith, came_by_input, exact_receives}
+use Rattle.mc_laws.proofs.step.Receiving.{came_by_input, exact_receives}
 
 rest_same : (step other : Step) (steps others : List Step) → step ∷ steps ≡ other ∷ others → steps ≡ others
 rest_same step other steps others same = cc

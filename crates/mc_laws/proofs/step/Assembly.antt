@@ -3,23 +3,18 @@ use Rattle.std.proofs.Common.{◌≡◌, ℕ, Bool, true, false, List, [], ◌�
 use Rattle.std.specs.Prelude.{◌==◌, if◌then◌else◌}
 use Rattle.std.proofs.lemmas.Bool.{eqb-true, eq-eqb}
 use Rattle.mc_model.specs.synod.Lists.{In}
-use Rattle.mc_model.specs.synod.Packet.{Packet, Prepare, Promise, Propose, Voted, Refused, Ask, Tell}
+use Rattle.mc_model.specs.synod.Packet.{Packet}
 use Rattle.mc_model.specs.synod.Acceptor.{Records}
-use Rattle.mc_model.specs.node.Setup.{Setup}
 use Rattle.mc_model.specs.node.Actor.{Actor}
-use Rattle.mc_model.specs.node.Act.{Act, Receives, Stops}
-use Rattle.mc_model.specs.node.Effect.{did, saved}
-use Rattle.mc_model.specs.node.Input.{Input, Delivery, Crash, Arrival, Refusal, Tick, Grant, Response, Restart}
-use Rattle.mc_model.specs.node.Due.{AreDue, AreDueOnce}
-use Rattle.mc_model.specs.node.Core.{AcceptorReplies, IsSaved, IsCore}
-use Rattle.mc_model.specs.node.Phases.{DueToEnd, DueToAsk, DueToAbandon}
+use Rattle.mc_model.specs.node.Act.{Act, Receives}
+use Rattle.mc_model.specs.node.Input.{Input}
 use Rattle.mc_model.specs.node.Step.{IsExact}
 use Rattle.mc_model.specs.node.Alone.{Node, after_alone, IsRunAlone, IsStepAlone, AreStepsAlone, MayAlone, reached_alone, opened_new, own_acts}
-use Rattle.mc_model.specs.cluster.World.{World, reached, start, IsRun, after, sent_by}
+use Rattle.mc_model.specs.cluster.World.{World, reached, start, IsRun, sent_by}
 use Rattle.mc_model.specs.cluster.Steps.{Cluster, setup_of, IsStep, Step, AreSteps, CameTo, by_node, acts_in}
 use Rattle.mc_model.specs.cluster.Assembly.{EachCame, WasSent, acts_of, steps_of}
-use Rattle.mc_parts.proofs.Membership.{in_right, in_either}
-use Rattle.mc_laws.proofs.step.Receiving.{ComesWith, came_by_input, exact_receives}
+use Rattle.mc_parts.proofs.Membership.{in_right}
+use Rattle.mc_laws.proofs.step.Receiving.{came_by_input, exact_receives}
 use Rattle.mc_laws.proofs.step.Behind.{run_behind, steps_run}
 use Rattle.mc_laws.proofs.step.Together.{acts_here, acts_apart, alone, may_together, IsAlone}
 

@@ -1,6 +1,6 @@
 -- Requests by ascending tickets, and acts by falling keys.
-use Rattle.std.proofs.Common.{◌≡◌, ◌⊎◌, ℕ, ◌<◌, Bool, true, false, cond, List, [], ◌∷◌, ◌++◌, map, refl, sym, ap, subst, ◌∙◌, inl, inr, arith}
-use Rattle.std.specs.Prelude.{filter, reverse}
+use Rattle.std.proofs.Common.{◌≡◌, ◌⊎◌, ℕ, ◌<◌, List, [], ◌∷◌, ◌++◌, map, refl, sym, ap, subst, ◌∙◌, inl, inr, arith}
+use Rattle.std.specs.Prelude.{reverse}
 use Rattle.std.specs.Ordering.{nat_cmp}
 use Rattle.std.specs.declared.cmp.Ordering.TheVariants.{Less}
 use Rattle.std.specs.List.{AllByRecursion}
@@ -12,7 +12,7 @@ use Rattle.std.proofs.lemmas.Map.Keys.{IsStrictlyIncreasing-from_sorted, sorted_
 use Rattle.mc_model.specs.synod.Lists.{In}
 use Rattle.mc_model.specs.node.Act.{Act}
 use Rattle.mc_model.specs.node.Due.{Fall, key_of}
-use Rattle.mc_parts.proofs.Membership.{in_either, in_filter}
+use Rattle.mc_parts.proofs.Membership.{in_either}
 use Rattle.node_model.specs.Kept.{Held}
 use Rattle.node_model.specs.Requests.{Ascend, IsBelow, ticket_of}
 

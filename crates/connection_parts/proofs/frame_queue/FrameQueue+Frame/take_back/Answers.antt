@@ -1,8 +1,6 @@
-use Rattle.std.proofs.Common.{rules, ap, List}
+use Rattle.std.proofs.Common.{rules}
 use Rattle.std.specs.Prelude.{not}
 use Rattle.std.proofs.lemmas.Fn.{filter_same}
-use Rattle.connection_parts.specs.declared.outbox.Frame.{Frame}
-use Rattle.connection_parts.specs.FrameQueues.{FrameQueue}
 use Rattle.connection_parts.specs.Outboxes.{is_of}
 use Rattle.connection_parts.proofs.frame_queue.FrameQueue+Frame.take_back.Goals as goal
 
