@@ -13,8 +13,9 @@ const NEAR: u64 = 5_000;
 /// How long the clock of the system has to stay apart before it is followed, in milliseconds: ten minutes.
 const PATIENCE: u64 = 600_000;
 
-/// By what moments a server goes. A clock that rises alone leads. That of the system is followed as long as it is near. Once it steps, by more than five seconds, it
-/// is followed only if it stays apart for ten minutes: if it is ahead, at once; if it is behind, by time that takes half its pace, so that it goes on.
+/// By what moments a server goes. A clock that rises alone leads. That of the system is followed as long as it is near. Once it steps, by more than five
+/// seconds, it is followed only if it stays apart for ten minutes: if it is ahead, at once; if it is behind, by time that takes half its pace, so that it
+/// goes on.
 #[derive(Drop)]
 pub struct Timepiece {
     moment: u64,
@@ -42,8 +43,8 @@ impl Timepiece {
         }
     }
 
-    /// The clock that rises alone and that of the system say this, in milliseconds, the latter since 1970. Whether the latter has stepped. What is told never goes
-    /// back.
+    /// The clock that rises alone and that of the system say this, in milliseconds, the latter since 1970. Whether the latter has stepped. What is told never
+    /// goes back.
     pub fn read(&mut self, steady: u64, system: u64) -> bool
         ensures after { self.new ≡ after self.old steady system }
         ensures apart { result ≡ comes_apart self.old steady system }

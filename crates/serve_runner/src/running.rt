@@ -22,9 +22,9 @@ use std::sync::ledger::Blank;
 use std::sync::{Arc, Wait};
 use std::thread::Threads;
 
-/// Serves by the configuration in a file until it ends: how many entries its journal has, in all its parts. Of several faults that keep it from serving that of
-/// the file is told first, then those of the configuration, of stores that can't be opened, of the listeners, and of what the stores hold. So a start that fails
-/// at a listener uses up no incarnation. Once it serves, Ended or Journal tell why it ended, if it was not asked to.
+/// Serves by the configuration in a file until it ends: how many entries its journal has, in all its parts. Of several faults that keep it from serving that
+/// of the file is told first, then those of the configuration, of stores that can't be opened, of the listeners, and of what the stores hold. So a start that
+/// fails at a listener uses up no incarnation. Once it serves, Ended or Journal tell why it ended, if it was not asked to.
 ///
 /// The lines that tell where nodes listen come once all stores are open, and all nodes listen; the line that the centre serves once all nodes may be served.
 pub fn serve_file<

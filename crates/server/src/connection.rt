@@ -22,8 +22,8 @@ const LAST_LOOKS: usize = 600;
 /// How long it is slept between two looks, in milliseconds.
 const LAST_PAUSE: u64 = 50;
 
-/// A connection with an ESME: its stream, what came and waits to be served, what waits to be written, and the places of its workers. Threads share it: who reads
-/// and who writes from its begin to its end, who serves and the workers in each life of their node.
+/// A connection with an ESME: its stream, what came and waits to be served, what waits to be written, and the places of its workers. Threads share it: who
+/// reads and who writes from its begin to its end, who serves and the workers in each life of their node.
 #[derive(Drop)]
 pub(crate) struct Connection {
     /// Which of all connections it is: no other has its number, though a later session may have the number of its session.
@@ -137,8 +137,8 @@ impl Connection {
         );
     }
 
-    /// The deliver_sm of an attempt that is given up does not go out any more: it is taken back if it waits. If it is being written, the connection is lost: who
-    /// takes nothing for so long gets no more of it. Whether it was taken back.
+    /// The deliver_sm of an attempt that is given up does not go out any more: it is taken back if it waits. If it is being written, the connection is lost:
+    /// who takes nothing for so long gets no more of it. Whether it was taken back.
     pub(crate) fn take_back<R: Wait>(&self, rt: &R, sequence: u32) -> bool {
         let withdrawal = self.outbox.lock(rt).take_back(sequence);
         self.changed.notify_all();

@@ -8,8 +8,8 @@ use std::sync::{Condvar, Mutex, Wait};
 /// How many lines wait to be written, before what comes is counted in place of being told.
 const MANY_LINES: usize = 1_000;
 
-/// The lines that an operator reads, on standard error. Who has a line puts it to those that wait, and goes on; a thread writes them. So a standard error that nobody
-/// reads holds up nobody who serves. A quiet one has no lines but those that must be told.
+/// The lines that an operator reads, on standard error. Who has a line puts it to those that wait, and goes on; a thread writes them. So a standard error
+/// that nobody reads holds up nobody who serves. A quiet one has no lines but those that must be told.
 #[derive(Drop)]
 pub(crate) struct Log {
     alloc: Global,

@@ -272,8 +272,8 @@ impl Site {
         is_given.map(|_| ())
     }
 
-    /// Gives a delivery to a worker of its session that is free; whether one is. It is noted first, so that its answer finds it. An `Err` is want of memory, and
-    /// nothing is given.
+    /// Gives a delivery to a worker of its session that is free; whether one is. It is noted first, so that its answer finds it. An `Err` is want of memory,
+    /// and nothing is given.
     fn give<R: Wait>(&mut self, rt: &R, job: Job) -> Result<bool, AllocError> {
         let number = job.pushed.number;
         let Some(place) = self.free_place(rt, number) else {
@@ -453,8 +453,8 @@ impl Site {
         self.connections.len()
     }
 
-    /// The requests that wait get no answer of the node any more, since it starts anew: they are answered 0x08. None is left: a session is lost for whose answer
-    /// there is no memory, since another request would get its ticket.
+    /// The requests that wait get no answer of the node any more, since it starts anew: they are answered 0x08. None is left: a session is lost for whose
+    /// answer there is no memory, since another request would get its ticket.
     pub(crate) fn refuse_waiting<R: Wait>(&mut self, rt: &R, id: MsgId) {
         for _ in 0..self.waiting() {
             let Some(ticket) = self.first_ticket() else {

@@ -113,8 +113,8 @@ fn tick_once<S: StableStore, L: Begins, R: Wait + Eprint + Clock>(shift: &Shift<
     shift.give_back(seat);
 }
 
-/// Hands in a tick each second until the life of the node is over; but each one ends all rounds, so the next one waits until those are through that the last one
-/// began, also in another part of the journal, unless no packet comes any more.
+/// Hands in a tick each second until the life of the node is over; but each one ends all rounds, so the next one waits until those are through that the last
+/// one began, also in another part of the journal, unless no packet comes any more.
 pub(crate) fn tick_on<S: StableStore, L: Begins, R: Wait + Eprint + Clock>(
     shift: &Shift<'_, S, L, R>,
 ) {
@@ -201,8 +201,8 @@ fn wait_for_rounds<S: StableStore, L: Begins, R: Wait + Eprint + Clock>(
 /// How often it is looked whether packets come before an operator is told how many have: for five seconds.
 const TOLD_LOOKS: u32 = 250;
 
-/// It was looked so often whether the rounds of a node are through: each five seconds an operator is told how far they are, if it is not served before that. How often
-/// it was looked then.
+/// It was looked so often whether the rounds of a node are through: each five seconds an operator is told how far they are, if it is not served before that.
+/// How often it was looked then.
 fn tell_progress<S: StableStore, L: Begins, R: Wait + Eprint>(
     shift: &Shift<'_, S, L, R>,
     looks: u32,
