@@ -20,6 +20,7 @@ LINES = [LISTENS, SERVING, ENDED, *map(re.compile, (
     r"node \d+: no place for a session from 127\.0\.0\.1:\d+",
     r"node \d+: (it has few message_ids left; it starts anew|started anew, incarnation \d+)",
     r"node \d+: (its first tick is under way; it serves|through with its first tick)",
+    r"node \d+: (not served yet: \d+ of \d+ packets have come|\d+ incarnations are left)",
     r"part \d+: entries \d+, final states told \d+, deliveries cut short \d+, closed in \d+ ms",
     r"counts: sessions \d+, submits \d+, deliveries \d+, receipts \d+, refused \d+, waiting \d+",
 ))]
