@@ -1,6 +1,6 @@
 //! The lines that an operator reads.
 
-use std::alloc::{AllocError, Global};
+use std::alloc::Global;
 use std::collections::VecDeque;
 use std::fmt;
 use std::sync::{Condvar, Mutex, Wait};
