@@ -4,7 +4,6 @@ ghost use Rattle.std.specs.Prelude.{◌≤◌};
 
 use crate::same::assert_same;
 use crate::values::{address, text};
-use desk::{Answer, shown};
 use fate_chain::{
     Author, Chain, ChainFault, Content, Decree, ErrorCode, Final, Kind, SharedSubmission,
     Submission,
@@ -362,16 +361,6 @@ fn a_message_ended_with_its_fate(rt: HostRuntime) {
         &(fate, ended, place),
         &(Some(Final::Deleted), TAKEN, 2),
     );
-}
-
-#[test]
-fn a_query_shows_a_fate_that_is_told_as_before(rt: HostRuntime) {
-    let chain = chain_of(&rt, rt.alloc(), TOLD);
-    let answer = shown(&chain);
-    drop(chain);
-    let ended = moment(&rt, TAKEN);
-    let wanted = Answer::Shown(State::Deleted, Some(ended), 255);
-    assert_same(&rt, &answer, &wanted);
 }
 
 // A message with this registered_delivery, whose first attempt ends it.
