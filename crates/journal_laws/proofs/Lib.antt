@@ -9,6 +9,5 @@ pub mod Likeness
 pub mod Growing
 pub mod Parts
 pub mod Entries
-pub mod Refusing
 pub mod Telling
 pub mod Worked

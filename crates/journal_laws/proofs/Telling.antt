@@ -1,45 +1,52 @@
 -- What a journal tells, as a run of its cluster.
-use Rattle.std.proofs.Common.{◌≡◌, ℕ, ◌+◌, ◌≤◌, Bool, true, false, List, [], ◌∷◌, ◌++◌, Option, Some, None, Ok, refl, sym, ap, subst, ◌∙◌, arith}
+use Rattle.std.proofs.Common.{◌≡◌, ℕ, ◌+◌, ◌≤◌, Bool, true, false, List, [], ◌∷◌, ◌++◌, Option, Some, None, Ok, refl, sym, ap, subst, ◌∙◌, inl, inr}
+use Rattle.std.proofs.Common.{append_assoc, arith}
 use Rattle.std.specs.Prelude.{map, if◌then◌else◌}
-use Rattle.std.proofs.lemmas.List.{append-nil}
+use Rattle.std.proofs.lemmas.List.{append-nil, map-append}
 use Rattle.std.proofs.lemmas.List.Concat.{flat_map-append}
-use Rattle.mc_model.specs.message.Decree.{Decree, Delivered, Final}
+use Rattle.mc_model.specs.message.Decree.{Decree, Deleted, Delivered, Final}
 use Rattle.mc_model.specs.synod.Lists.{In}
 use Rattle.mc_model.specs.synod.Packet.{Packet, Slot, slot_of}
 use Rattle.mc_model.specs.node.Input.{Crash}
 use Rattle.mc_model.specs.node.Outputs.{Outputs}
-use Rattle.mc_model.specs.node.Replies.{Answer as Told, Shown, Unknown}
+use Rattle.mc_model.specs.node.Replies.{Accepted, Answer as Told, Removed, Shown, Unknown}
 use Rattle.mc_model.specs.node.Setup.{Setup}
 use Rattle.mc_model.specs.cluster.Steps.{Cluster, setup_of}
-use Rattle.mc_parts.proofs.Membership.{in_left}
+use Rattle.mc_parts.proofs.Membership.{in_either, in_left}
 use Rattle.node_model.specs.Kept.{Kept}
 use Rattle.node_model.specs.Outputs.{nothing}
 use Rattle.node_model.specs.Stepped.{stepped, stepped_down, stepped_up}
 use Rattle.node_laws.specs.Chosen.{WasVotedFor}
 use Rattle.node_laws.specs.Clusters.{MayHappen, NodeInput, StatesFinal, cluster_outputs, kept_reached, outputs_at, receipts_given, step_at}
+use Rattle.node_laws.specs.GivenOut.{Cancels}
 use Rattle.node_laws.proofs.cluster.Delivered.{delivered}
+use Rattle.node_laws.proofs.cluster.GivenOut.{cancels_delete}
 use Rattle.node_laws.proofs.cluster.OneReceipt.{count_both, count_of}
 use Rattle.node_laws.proofs.cluster.Sources.{may_until}
+use Rattle.node_laws.proofs.cluster.Stated.{one_final}
 use Rattle.delivery.specs.declared.outcome.Outcome.TheVariants as outcomes
 use Rattle.node_core.specs.Stops.{is_after}
 use Rattle.world_runs.specs.Given.{Given}
+use Rattle.world_runs.specs.Step.{Step}
 use Rattle.world_runs.specs.Step.TheVariants as steps
 use Rattle.world_runs.specs.Runs.{IsGiven, given_out, node_at}
 use Rattle.world_runs.specs.Traces.{Answer, Event, Reaches, Tried, answers_in, events_of, told_in}
 use Rattle.world_runs.specs.Traces.{IsAnsweredLater as IsEventAnswered, StandsOnAnAttempt as EventsStand}
-use Rattle.world_runs.proofs.Asking.{accepted_are_known, later_queries_are_told}
-use Rattle.world_runs.proofs.Events.{ReachesBy, goes_on_by, reached_by}
+use Rattle.world_runs.proofs.Asking.{messages_are_known, queries_are_told}
+use Rattle.world_runs.proofs.Events.{ReachesBy, given_in, goes_on_by, reached_by}
+use Rattle.world_runs.proofs.Refusing.{ids_not_refused}
 use Rattle.world_runs.proofs.Standing.{deliveries_stand}
-use Rattle.world_runs.proofs.Tracing.{grants_none, one_fate, one_in_run, states_given, states_nothing}
+use Rattle.world_runs.proofs.Telling.{all_receipts_stand as receipts_stand_all}
+use Rattle.world_runs.proofs.Tracing.{IsStated, given_before, grants_none_behind, one_in_run, states_given, states_nothing, states_so}
 use Rattle.world_runs.proofs.Voting.{chosen_before}
 use Rattle.journal_laws.specs.Journals.{Done, Entry, IsJournal, RunsOn, Unfinished, answers_given, done_in, steps_done, steps_for, stop_of}
-use Rattle.journal_laws.specs.Telling.{AcceptedAreKnown, AreChosen, DeliveriesStand, DeliveriesStandInTheRun, GrantNoneAfterAFate, IsAnsweredLater}
-use Rattle.journal_laws.specs.Telling.{IdsAreNotRefusedAtOnce, LaterQueriesAreTold, StandsOnAnAttempt, TellOneFate, TellOneReceipt, told_by}
+use Rattle.journal_laws.specs.Telling.{AcceptedAreKnown, AllReceiptsStand, AreChosen, CancelsTellDeleted, DeliveriesStand, DeliveriesStandInTheRun}
+use Rattle.journal_laws.specs.Telling.{GrantNoneAfterACancel, GrantNoneAfterAFate, IdsAreNotRefusedAtOnce, IsAnsweredLater, KeepsItsPromises}
+use Rattle.journal_laws.specs.Telling.{LaterQueriesAreTold, StandsOnAnAttempt, TellOneFate, TellOneReceipt, told_by, told_so_far}
 use Rattle.journal_laws.specs.Joining.{IsCut}
 use Rattle.journal_laws.proofs.Entries.{IsNoStop, before_it, done_among, done_at, events_tried, found, front_of, in_made, lives_by, lives_tried}
 use Rattle.journal_laws.proofs.Entries.{tried, tried_among, tried_in}
 use Rattle.journal_laws.proofs.Joining.{cut}
-use Rattle.journal_laws.proofs.Refusing.{ids_not_refused}
 use Rattle.journal_laws.proofs.Running.{runs_on}
 
 abbrev answer : Done → Answer
@@ -48,9 +55,6 @@ answer done = Ok done.given
 answers_all : (taken : List Done) → answers_in (map tried taken) ≡ map answer taken
 answers_all [] = refl
 answers_all (done ∷ later) = ap (λ (answers : List Answer). answer done ∷ answers) (answers_all later)
-
-answer_among : (entries : List Entry) (entry : Entry) → In entry entries → In (answer entry.done) (answers_given entries)
-answer_among entries entry among = in_made answer entry.done (done_in entries) (done_among entries entry among)
 
 -- ---- receipts
 
@@ -172,6 +176,29 @@ stands_among entries id chain it =
       };
     }
 
+-- ---- what was told
+
+-- by one of these entries
+record IsToldBy (entries : List Entry) (outputs : Outputs) : Type 0 where
+  entry : Entry
+  among : In entry entries
+  is : told_by entry ≡ outputs
+
+told_from : (entries : List Entry) (outputs : Outputs) → In outputs (map told_by entries) → IsToldBy entries outputs
+told_from [] outputs none = absurd none
+told_from (first ∷ entries) outputs (inl same) = record { entry = first; among = inl refl; is = sym same }
+told_from (first ∷ entries) outputs (inr later) =
+    let it = told_from entries outputs later in record { entry = it.entry; among = inr it.among; is = it.is }
+
+-- stays so behind more of them
+told_still : (cluster : Cluster) (inputs : List NodeInput) (older newer : List Entry) (outputs : Outputs) →
+    In outputs (told_so_far cluster inputs older) → In outputs (told_so_far cluster inputs (older ++ newer))
+told_still cluster inputs older newer outputs among =
+    subst (In outputs)
+    (append_assoc (cluster_outputs cluster inputs) (map told_by older) (map told_by newer)
+    ∙ ap (λ (told : List Outputs). cluster_outputs cluster inputs ++ told) (sym (map-append told_by older newer)))
+    (in_left outputs (told_so_far cluster inputs older) (map told_by newer) among)
+
 -- ---- a journal
 
 module _ (cluster : Cluster) (behind : List Packet) (inputs : List NodeInput) (entries : List Entry) (ends : ℕ → Kept)
@@ -183,11 +210,54 @@ module _ (cluster : Cluster) (behind : List Packet) (inputs : List NodeInput) (e
   reaches = subst (λ (events : List Event). ReachesBy cluster inputs events way.last) (events_tried entries)
       (reached_by cluster behind inputs (steps_done entries) (answers_given entries) way.last way.reaches)
 
-  pub tells_one_fate : TellOneFate entries
+  -- what was told so far is given out wherever the run goes on by more events
+  pub record IsGivenIn (at : List NodeInput) (outputs : Outputs) : Type 0 where
+    pub same : Outputs
+    pub among : In same (cluster_outputs cluster at)
+    pub replies : same.replies ≡ outputs.replies
+    pub receipts : same.receipts ≡ outputs.receipts
+
+  given_so_far : (older : List Entry) (more : List Event) (at : List NodeInput) → ReachesBy cluster inputs (tried_in older ++ more) at →
+      (outputs : Outputs) → In outputs (told_so_far cluster inputs older) → IsGivenIn at outputs
+  given_so_far older more at r outputs among = elim (in_either outputs (cluster_outputs cluster inputs) (map told_by older) among) [
+    | inl before ↦ record {
+      same = outputs;
+      among = given_before cluster inputs (tried_in older ++ more) at r outputs before;
+      replies = refl;
+      receipts = refl;
+    }
+    | inr told ↦
+        let it = told_from older outputs told in
+        let entry = tried it.entry.done in
+        let out = given_in cluster inputs (tried_in older ++ more) at r it.entry.done.step it.entry.done.given
+        (in_left entry (tried_in older) more (tried_among older it.entry it.among)) in
+        record {
+          same = out.outputs;
+          among = out.among;
+          replies = sym (ap (λ (o : Outputs). o.replies) out.is.others) ∙ ap (λ (o : Outputs). o.replies) it.is;
+          receipts = sym (ap (λ (o : Outputs). o.receipts) out.is.others) ∙ ap (λ (o : Outputs). o.receipts) it.is;
+        }
+  ]
+
+  stated_so_far : (older : List Entry) (more : List Event) (at : List NodeInput) → ReachesBy cluster inputs (tried_in older ++ more) at →
+      (outputs : Outputs) → In outputs (told_so_far cluster inputs older) → (id : ℕ) (final : Final) → StatesFinal outputs id final →
+      IsStated cluster inputs at id final
+  stated_so_far older more at r outputs among id final says =
+      let it = given_so_far older more at r outputs among in
+      record { outputs = it.same; among = it.among; states = states_so outputs it.same it.replies it.receipts id final says }
+
+  reaches_all : ReachesBy cluster inputs (tried_in entries ++ []) way.last
+  reaches_all = subst (λ (events : List Event). ReachesBy cluster inputs events way.last) (sym (append-nil (tried_in entries))) reaches
+
+  stated_in_all : (outputs : Outputs) → In outputs (told_so_far cluster inputs entries) → (id : ℕ) (final : Final) → StatesFinal outputs id final →
+      IsStated cluster inputs way.last id final
+  stated_in_all = stated_so_far entries [] way.last reaches_all
+
+  pub tells_one_fate : TellOneFate cluster inputs entries
   tells_one_fate one other id first second among also says tells =
-      one_fate cluster inputs (tried_in entries) way.last reaches way.may (answer one.done) (answer other.done) id first second
-      (subst (In (answer one.done)) (sym (answers_all (done_in entries))) (answer_among entries one among))
-      (subst (In (answer other.done)) (sym (answers_all (done_in entries))) (answer_among entries other also)) says tells
+      let here = stated_in_all one among id first says in
+      let there = stated_in_all other also id second tells in
+      one_final cluster way.last way.may here.outputs there.outputs id first second here.among there.among here.states there.states
 
   pub tells_one_receipt : TellOneReceipt cluster inputs entries
   tells_one_receipt id =
@@ -201,16 +271,34 @@ module _ (cluster : Cluster) (behind : List Packet) (inputs : List NodeInput) (e
       let within = all_told id entries in
       omega (arith, both, told, most, within)
 
-  pub grants_nothing_after : GrantNoneAfterAFate entries
+  pub grants_nothing_after : GrantNoneAfterAFate cluster inputs entries
   grants_nothing_after older granting newer telling id final split among says grants =
-      grants_none cluster inputs (tried_in entries) way.last reaches way.may (answer telling.done) (answer granting.done) id final
-      (record {
-        older = map answer (done_in older) ++ map answer (before_it granting);
-        newer = map answer (done_in newer);
-        split = answers_all (done_in entries) ∙ ap answers_given split ∙ done_at answer older granting newer;
-        before = in_left (answer telling.done) (map answer (done_in older)) (map answer (before_it granting)) (answer_among older telling among);
-      })
-      says grants
+      let by = subst (λ (events : List Event). ReachesBy cluster inputs events way.last) (ap tried_in split ∙ done_at tried older granting newer) reaches in
+      grants_none_behind cluster inputs (tried_in older ++ map tried (before_it granting)) granting.done.step (Ok granting.done.given) (tried_in newer)
+      way.last by way.may id final
+      (λ mid r. stated_so_far older (map tried (before_it granting)) mid r telling among id final says) grants
+
+  -- ---- a message that is cancelled
+
+  pub cancels_tell_deleted : CancelsTellDeleted cluster inputs entries
+  cancels_tell_deleted outputs id among cancels =
+      let it = given_so_far entries [] way.last reaches_all outputs among in
+      let there : Cancels it.same id = record {
+        ticket = cancels.ticket;
+        chain = cancels.chain;
+        among = subst (In (record { ticket = cancels.ticket; id = id; answer = Removed cancels.chain })) (sym it.replies) cancels.among;
+      } in
+      states_so it.same outputs (sym it.replies) (sym it.receipts) id Deleted (cancels_delete cluster way.last way.may it.same id it.among there)
+
+  pub grants_none_after_a_cancel : GrantNoneAfterACancel cluster inputs entries
+  grants_none_after_a_cancel older granting newer cancelling id split among cancels =
+      let all = told_still cluster inputs older (granting ∷ newer) cancelling among in
+      let here = subst (λ (es : List Entry). In cancelling (told_so_far cluster inputs es)) (sym split) all in
+      grants_nothing_after older granting newer cancelling id Deleted split among (cancels_tell_deleted cancelling id here cancels)
+
+  pub all_receipts_stand : AllReceiptsStand entries
+  all_receipts_stand entry among =
+      receipts_stand_all cluster inputs (tried_in entries) way.last reaches way.may entry.done.step entry.done.given (tried_among entries entry among)
 
   -- an entry that is answered later is so among the events
   answered_later : (older : List Entry) (id : ℕ) (told : Told) (it : IsAnsweredLater entries older id told) →
@@ -240,21 +328,27 @@ module _ (cluster : Cluster) (behind : List Packet) (inputs : List NodeInput) (e
         (done_at tried it.middle it.replying it.newer);
   }
 
-  told_before : (older : List Entry) (asking telling : Entry) → In telling older → In (tried telling.done) (tried_in older ++ map tried (before_it asking))
-  told_before older asking telling among = in_left (tried telling.done) (tried_in older) (map tried (before_it asking)) (tried_among older telling among)
-
-  pub queries_told : LaterQueriesAreTold entries
+  pub queries_told : LaterQueriesAreTold cluster inputs entries
   queries_told older telling id chain final among says it =
-      later_queries_are_told cluster inputs (tried_in entries) way.last reaches way.may (tried_in older ++ map tried (before_it it.asking)) (tried telling.done)
-      id chain final (told_before older it.asking telling among) says (answered_later older id (Shown chain) it)
+      queries_are_told cluster inputs (tried_in entries) way.last reaches way.may (tried_in older ++ map tried (before_it it.asking)) id chain final
+      (λ mid r. stated_so_far older (map tried (before_it it.asking)) mid r telling among id final says) (answered_later older id (Shown chain) it)
 
   pub ids_known : IdsAreNotRefusedAtOnce entries
-  ids_known = ids_not_refused cluster inputs entries way.last reaches
+  ids_known entry node account request id among step_is =
+      ids_not_refused cluster inputs (tried_in entries) way.last reaches node account request entry.done.given id
+      (subst (λ (step : Step). In (Tried step (Ok entry.done.given)) (tried_in entries)) step_is (tried_among entries entry among))
 
-  pub accepted_known : AcceptedAreKnown entries
+  pub accepted_known : AcceptedAreKnown cluster inputs entries
   accepted_known older accepting taken id among accepts it =
-      accepted_are_known cluster inputs (tried_in entries) way.last reaches way.may (tried_in older ++ map tried (before_it it.asking)) (tried accepting.done)
-      taken id (told_before older it.asking accepting among) accepts (answered_later older id Unknown it)
+      messages_are_known cluster inputs (tried_in entries) way.last reaches way.may (tried_in older ++ map tried (before_it it.asking)) taken id
+      (λ mid r.
+          let out = given_so_far older (map tried (before_it it.asking)) mid r accepting among in
+          record {
+            outputs = out.same;
+            among = out.among;
+            accepts = subst (In (record { ticket = taken; id = id; answer = Accepted })) (sym out.replies) accepts;
+          })
+      (answered_later older id Unknown it)
 
   -- ---- where a final state is told
 
@@ -306,3 +400,24 @@ module _ (cluster : Cluster) (behind : List Packet) (entries : List Entry) (ends
       (ap (λ (events : List Event). tried_in older ++ events) (front_none cluster behind [] entries ends is older telling newer id Delivered split says)
       ∙ append-nil (tried_in older))
       stand)
+
+-- ---- all of it
+
+module _ (cluster : Cluster) (behind : List Packet) (inputs : List NodeInput) (entries : List Entry) (ends : ℕ → Kept)
+    (is : IsJournal cluster behind inputs entries ends) where
+  pub keeps_promises : KeepsItsPromises cluster behind inputs entries
+  keeps_promises = record {
+    fate = tells_one_fate cluster behind inputs entries ends is;
+    receipts = tells_one_receipt cluster behind inputs entries ends is;
+    grants = grants_nothing_after cluster behind inputs entries ends is;
+    cancels = cancels_tell_deleted cluster behind inputs entries ends is;
+    cancelled = grants_none_after_a_cancel cluster behind inputs entries ends is;
+    stand = all_receipts_stand cluster behind inputs entries ends is;
+    chosen = all_chosen cluster behind inputs entries ends is;
+    deliveries = deliveries_stand_in_the_run cluster behind inputs entries ends is;
+    deliveries_here = λ none. all_deliveries_stand cluster behind entries ends
+        (subst (λ (ins : List NodeInput). IsJournal cluster behind ins entries ends) none is);
+    queries = queries_told cluster behind inputs entries ends is;
+    accepted = accepted_known cluster behind inputs entries ends is;
+    at_once = ids_known cluster behind inputs entries ends is;
+  }

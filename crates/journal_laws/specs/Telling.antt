@@ -1,5 +1,5 @@
 -- The headline, and what later requests are answered, in the words of a journal (own).
-use Rattle.std.specs.Prelude.{◌≡◌, ℕ, List, ◌∷◌, ◌++◌, Some, map, reverse}
+use Rattle.std.specs.Prelude.{◌≡◌, ℕ, List, [], ◌∷◌, ◌++◌, Some, map, reverse}
 use Rattle.mc_model.specs.message.Decree.{Attempt, Decree, Delivered, Fate, Final}
 use Rattle.mc_model.specs.message.Chain.{final_in, untold}
 use Rattle.mc_model.specs.synod.Lists.{In}
@@ -9,37 +9,59 @@ use Rattle.mc_model.specs.node.Replies.{Accepted, Answer, Shown, Unknown}
 use Rattle.mc_model.specs.cluster.Steps.{Cluster}
 use Rattle.node_model.specs.Kept.{Kept}
 use Rattle.node_laws.specs.Chosen.{WasVotedFor}
-use Rattle.node_laws.specs.Clusters.{GrantsOut, IsDeliveredBy, NodeInput, OneOfEach, StatesFinal, cluster_outputs, receipts_given}
+use Rattle.node_laws.specs.Clusters.{GrantsOut, IsDeliveredBy, NodeInput, OneOfEach, StatesFinal, cluster_outputs, kept_reached, receipts_given}
+use Rattle.node_laws.specs.GivenOut.{Cancels, CancelsDelete, ReceiptsStand}
 use Rattle.delivery.specs.declared.outcome.Outcome.TheVariants as outcomes
 use Rattle.desk.specs.declared.request.Request.{Request}
-use Rattle.desk.specs.declared.request.Request.TheVariants as asked
-use Rattle.mc_types.specs.Texts.{id_in}
 use Rattle.pdu_tables.specs.declared.status.Status.TheVariants as statuses
 use Rattle.world_runs.specs.Step.TheVariants as steps
 use Rattle.world_runs.specs.Runs.{given_out, node_at}
+use Rattle.world_runs.specs.Tellings.{Names}
 use Rattle.journal_laws.specs.Journals.{Entry, RunsOn, packets_sent}
 
 -- what goes out by an entry, but for its packets
 abbrev pub told_by : Entry → Outputs
 told_by entry = given_out entry.done.given
 
+-- what went out by the run that led to a journal, and by these entries
+abbrev pub told_so_far : Cluster → List NodeInput → List Entry → List Outputs
+told_so_far cluster inputs entries = cluster_outputs cluster inputs ++ map told_by entries
+
 -- ---- one fate
 
--- No two final states that entries tell of one message differ.
-abbrev pub TellOneFate : List Entry → Type 0
-TellOneFate entries =
-    (one other : Entry) (id : ℕ) (first second : Final) → In one entries → In other entries →
-    StatesFinal (told_by one) id first → StatesFinal (told_by other) id second → first ≡ second
+-- No two final states that the run and the entries tell of one message differ.
+abbrev pub TellOneFate : Cluster → List NodeInput → List Entry → Type 0
+TellOneFate cluster inputs entries =
+    (one other : Outputs) (id : ℕ) (first second : Final) → In one (told_so_far cluster inputs entries) → In other (told_so_far cluster inputs entries) →
+    StatesFinal one id first → StatesFinal other id second → first ≡ second
 
--- Of each message_id one receipt at most is told, by the run that led to the journal and by its entries together.
+-- Of each message_id they tell one receipt at most.
 abbrev pub TellOneReceipt : Cluster → List NodeInput → List Entry → Type 0
-TellOneReceipt cluster inputs entries = OneOfEach (receipts_given (cluster_outputs cluster inputs ++ map told_by entries))
+TellOneReceipt cluster inputs entries = OneOfEach (receipts_given (told_so_far cluster inputs entries))
 
--- Behind an entry that told a final state of a message, as DELETED by ESME_ROK to its cancel_sm, none grants an attempt of it.
-abbrev pub GrantNoneAfterAFate : List Entry → Type 0
-GrantNoneAfterAFate entries =
-    (older : List Entry) (granting : Entry) (newer : List Entry) (telling : Entry) (id : ℕ) (final : Final) → entries ≡ older ++ granting ∷ newer →
-    In telling older → StatesFinal (told_by telling) id final → GrantsOut (told_by granting) id → ⊥
+-- Behind what told a final state of a message no entry grants an attempt of it.
+abbrev pub GrantNoneAfterAFate : Cluster → List NodeInput → List Entry → Type 0
+GrantNoneAfterAFate cluster inputs entries =
+    (older : List Entry) (granting : Entry) (newer : List Entry) (telling : Outputs) (id : ℕ) (final : Final) → entries ≡ older ++ granting ∷ newer →
+    In telling (told_so_far cluster inputs older) → StatesFinal telling id final → GrantsOut (told_by granting) id → ⊥
+
+-- ---- a message that is cancelled
+
+-- ESME_ROK to a cancel_sm states that its message is DELETED.
+abbrev pub CancelsTellDeleted : Cluster → List NodeInput → List Entry → Type 0
+CancelsTellDeleted cluster inputs entries = CancelsDelete (told_so_far cluster inputs entries)
+
+-- Behind ESME_ROK to the cancel_sm of a message no entry grants an attempt of it.
+abbrev pub GrantNoneAfterACancel : Cluster → List NodeInput → List Entry → Type 0
+GrantNoneAfterACancel cluster inputs entries =
+    (older : List Entry) (granting : Entry) (newer : List Entry) (cancelling : Outputs) (id : ℕ) → entries ≡ older ++ granting ∷ newer →
+    In cancelling (told_so_far cluster inputs older) → Cancels cancelling id → GrantsOut (told_by granting) id → ⊥
+
+-- ---- what stands behind what is told
+
+-- Each receipt is of a message whose id names the node that gives it out, and stands on a chain that ends in a Told of that node.
+abbrev pub AllReceiptsStand : List Entry → Type 0
+AllReceiptsStand entries = (entry : Entry) → In entry entries → ReceiptsStand (node_at entry.done.step) (told_by entry)
 
 -- The chain of each final state that is told was chosen before (Paxos Made Simple, 2.3): a majority of the nodes voted for it at one ballot, and told so in
 -- packets that were sent before the journal, the newest first, or by earlier entries.
@@ -47,8 +69,6 @@ abbrev pub AreChosen : ℕ → List Packet → List Entry → Type 0
 AreChosen nodes before entries =
     (older : List Entry) (telling : Entry) (newer : List Entry) (id : ℕ) (final : Final) → entries ≡ older ++ telling ∷ newer →
     (says : StatesFinal (told_by telling) id final) → WasVotedFor nodes (reverse (packets_sent older) ++ before) id says.chain
-
--- ---- what stands behind a delivery
 
 -- a node starts anew by none of these
 abbrev pub LivesOn : ℕ → List Entry → Type 0
@@ -101,8 +121,8 @@ DeliveriesStandInTheRun cluster behind inputs entries =
 -- ---- what a later request is answered
 
 -- a request that waits under this ticket is answered so, of this message
-abbrev pub IsRepliedTo : Entry → ℕ → ℕ → Answer → Type 0
-IsRepliedTo entry ticket id answer = In (record { ticket = ticket; id = id; answer = answer }) (told_by entry).replies
+abbrev pub IsRepliedTo : Outputs → ℕ → ℕ → Answer → Type 0
+IsRepliedTo outputs ticket id answer = In (record { ticket = ticket; id = id; answer = answer }) outputs.replies
 
 -- Behind these entries a request came to a node, and waits there; and later, in the same life of the node, it is answered so.
 pub record IsAnsweredLater (entries older : List Entry) (id : ℕ) (answer : Answer) : Type 0 where
@@ -117,31 +137,42 @@ pub record IsAnsweredLater (entries older : List Entry) (id : ℕ) (answer : Ans
   pub lives : LivesOn node middle
   pub replying : Entry
   pub node_is : node_at replying.done.step ≡ node
-  pub replied : IsRepliedTo replying ticket id answer
+  pub replied : IsRepliedTo (told_by replying) ticket id answer
   pub newer : List Entry
   pub split : entries ≡ older ++ asking ∷ (middle ++ replying ∷ newer)
 
--- A query_sm whose entry stands behind one that told a final state of its message, and that is answered by ESME_ROK in the same life of its node, is told
+-- A query_sm whose entry stands behind what told a final state of its message, and that is answered by ESME_ROK in the same life of its node, is told
 -- that state.
-abbrev pub LaterQueriesAreTold : List Entry → Type 0
-LaterQueriesAreTold entries =
-    (older : List Entry) (telling : Entry) (id : ℕ) (chain : List Decree) (final : Final) → In telling older → StatesFinal (told_by telling) id final →
-    IsAnsweredLater entries older id (Shown chain) → final_in chain ≡ Some final
+abbrev pub LaterQueriesAreTold : Cluster → List NodeInput → List Entry → Type 0
+LaterQueriesAreTold cluster inputs entries =
+    (older : List Entry) (telling : Outputs) (id : ℕ) (chain : List Decree) (final : Final) → In telling (told_so_far cluster inputs older) →
+    StatesFinal telling id final → IsAnsweredLater entries older id (Shown chain) → final_in chain ≡ Some final
 
 -- No request whose entry stands behind ESME_ROK to the submit_sm of its message is answered, in the same life of its node, that there is no such message.
-abbrev pub AcceptedAreKnown : List Entry → Type 0
-AcceptedAreKnown entries =
-    (older : List Entry) (accepting : Entry) (taken id : ℕ) → In accepting older → IsRepliedTo accepting taken id Accepted →
+abbrev pub AcceptedAreKnown : Cluster → List NodeInput → List Entry → Type 0
+AcceptedAreKnown cluster inputs entries =
+    (older : List Entry) (accepting : Outputs) (taken id : ℕ) → In accepting (told_so_far cluster inputs older) → IsRepliedTo accepting taken id Accepted →
     IsAnsweredLater entries older id Unknown → ⊥
-
--- a query_sm or a cancel_sm names a message by its id (SMPP 3.4, 4.8.1 and 4.9.1)
-abbrev pub Names : Request → ℕ → Type 0
-Names (asked.Submit message target) id = ⊥
-Names (asked.Ask query) id = id_in query.message_id ≡ Some id
-Names (asked.Cancel cancel) id = id_in cancel.message_id ≡ Some id
 
 -- Nor is one that names a message by its id refused at once as one for a message that there is not (ESME_RINVMSGID: SMPP 3.4, 5.1.3), whatever waits.
 abbrev pub IdsAreNotRefusedAtOnce : List Entry → Type 0
 IdsAreNotRefusedAtOnce entries =
     (entry : Entry) (node : ℕ) (account : List ℕ) (request : Request) (id : ℕ) → In entry entries →
     entry.done.step ≡ steps.Request node account request → Names request id → entry.done.given.refused ≡ Some statuses.InvalidMessageId → ⊥
+
+-- ---- all of it
+
+-- What the run that led to a journal and its entries keep to, taken together.
+pub record KeepsItsPromises (cluster : Cluster) (behind : List Packet) (inputs : List NodeInput) (entries : List Entry) : Type 0 where
+  pub fate : TellOneFate cluster inputs entries
+  pub receipts : TellOneReceipt cluster inputs entries
+  pub grants : GrantNoneAfterAFate cluster inputs entries
+  pub cancels : CancelsTellDeleted cluster inputs entries
+  pub cancelled : GrantNoneAfterACancel cluster inputs entries
+  pub stand : AllReceiptsStand entries
+  pub chosen : AreChosen cluster.nodes (kept_reached cluster inputs).packets entries
+  pub deliveries : DeliveriesStandInTheRun cluster behind inputs entries
+  pub deliveries_here : inputs ≡ [] → DeliveriesStand entries
+  pub queries : LaterQueriesAreTold cluster inputs entries
+  pub accepted : AcceptedAreKnown cluster inputs entries
+  pub at_once : IdsAreNotRefusedAtOnce entries

@@ -27,11 +27,15 @@ ghost use Rattle.journal_laws.specs.OldStores.{AreLeft, IsJournalOver, kept_open
 ghost use Rattle.journal_laws.specs.Openings.{KeepsAsLeft, KeepsAsNew};
 ghost use Rattle.journal_laws.specs.Telling.{
   AcceptedAreKnown,
+  AllReceiptsStand,
   AreChosen,
+  CancelsTellDeleted,
   DeliveriesStand,
   DeliveriesStandInTheRun,
+  GrantNoneAfterACancel,
   GrantNoneAfterAFate,
   IdsAreNotRefusedAtOnce,
+  KeepsItsPromises,
   LaterQueriesAreTold,
   TellOneFate,
   TellOneReceipt,
@@ -126,10 +130,10 @@ pub fn a_run_is_a_journal()
         MayHappen cluster last → Reaches cluster behind inputs taken (map Ok givens) last → IsListed cluster behind inputs taken givens last }
 {}
 
-/// So no two final states that its entries tell of one message differ, whichever nodes tell them.
+/// So no two final states that are told of one message differ, whichever nodes tell them: by its entries, or by the run that led to it.
 pub fn a_journal_tells_one_fate()
     ensures { (cluster : Cluster) (behind : List Packet) (inputs : List NodeInput) (entries : List Entry) (ends : ℕ → Kept) →
-        IsJournal cluster behind inputs entries ends → TellOneFate entries }
+        IsJournal cluster behind inputs entries ends → TellOneFate cluster inputs entries }
 {}
 
 /// And of each message_id one receipt at most is told, by the run that led to the journal and by its entries together, however often nodes start anew: so
@@ -139,10 +143,24 @@ pub fn a_journal_tells_one_receipt()
         IsJournal cluster behind inputs entries ends → TellOneReceipt cluster inputs entries }
 {}
 
-/// And behind an entry that told a final state of a message, as DELETED by ESME_ROK to its cancel_sm, none grants an attempt of it.
+/// And each receipt is of a message whose id names the node that tells it, and stands on a chain that ends in a Told of that node.
+pub fn a_journal_tells_receipts_that_stand()
+    ensures { (cluster : Cluster) (behind : List Packet) (inputs : List NodeInput) (entries : List Entry) (ends : ℕ → Kept) →
+        IsJournal cluster behind inputs entries ends → AllReceiptsStand entries }
+{}
+
+/// And behind what told a final state of a message, an entry or the run that led to the journal, no entry grants an attempt of it.
 pub fn a_journal_grants_nothing_after_a_fate()
     ensures { (cluster : Cluster) (behind : List Packet) (inputs : List NodeInput) (entries : List Entry) (ends : ℕ → Kept) →
-        IsJournal cluster behind inputs entries ends → GrantNoneAfterAFate entries }
+        IsJournal cluster behind inputs entries ends → GrantNoneAfterAFate cluster inputs entries }
+{}
+
+/// And ESME_ROK to a cancel_sm states that its message is DELETED; so behind it no entry grants an attempt of the message.
+pub fn a_journal_deletes_what_is_cancelled()
+    ensures deleted { (cluster : Cluster) (behind : List Packet) (inputs : List NodeInput) (entries : List Entry) (ends : ℕ → Kept) →
+        IsJournal cluster behind inputs entries ends → CancelsTellDeleted cluster inputs entries }
+    ensures no_grant { (cluster : Cluster) (behind : List Packet) (inputs : List NodeInput) (entries : List Entry) (ends : ℕ → Kept) →
+        IsJournal cluster behind inputs entries ends → GrantNoneAfterACancel cluster inputs entries }
 {}
 
 /// And before an entry tells DELIVERED of a message, an attempt of it was granted at the node of the attempt's author, and its answer ESME_ROK was taken
@@ -161,16 +179,22 @@ pub fn a_journal_tells_what_was_chosen()
         IsJournal cluster behind inputs entries ends → AreChosen cluster.nodes (kept_reached cluster inputs).packets entries }
 {}
 
-/// And a query_sm whose entry stands behind one that told a final state of its message, and that is answered by ESME_ROK in the same life of its node, is
+/// And a query_sm whose entry stands behind what told a final state of its message, and that is answered by ESME_ROK in the same life of its node, is
 /// told that state; and no request whose entry stands behind ESME_ROK to the submit_sm of its message is answered so that there is no such message,
 /// nor is any that names a message by its id refused so at once.
 pub fn a_journal_answers_by_what_it_told()
     ensures told { (cluster : Cluster) (behind : List Packet) (inputs : List NodeInput) (entries : List Entry) (ends : ℕ → Kept) →
-        IsJournal cluster behind inputs entries ends → LaterQueriesAreTold entries }
+        IsJournal cluster behind inputs entries ends → LaterQueriesAreTold cluster inputs entries }
     ensures known { (cluster : Cluster) (behind : List Packet) (inputs : List NodeInput) (entries : List Entry) (ends : ℕ → Kept) →
-        IsJournal cluster behind inputs entries ends → AcceptedAreKnown entries }
+        IsJournal cluster behind inputs entries ends → AcceptedAreKnown cluster inputs entries }
     ensures at_once { (cluster : Cluster) (behind : List Packet) (inputs : List NodeInput) (entries : List Entry) (ends : ℕ → Kept) →
         IsJournal cluster behind inputs entries ends → IdsAreNotRefusedAtOnce entries }
+{}
+
+/// So a journal keeps each of these promises together with the run that led to it.
+pub fn a_journal_keeps_its_promises()
+    ensures { (cluster : Cluster) (behind : List Packet) (inputs : List NodeInput) (entries : List Entry) (ends : ℕ → Kept) →
+        IsJournal cluster behind inputs entries ends → KeepsItsPromises cluster behind inputs entries }
 {}
 
 /// Such journals are: a node promises and proposes, stops as it has saved its vote, starts anew, and refuses the Prepare that comes once more. What it gives

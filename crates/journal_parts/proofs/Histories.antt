@@ -8,12 +8,13 @@ use Rattle.stable_store.specs.Stored.{Stored}
 use Rattle.journal_laws.specs.Journals.{Entry, IsInRange, IsOwnRun, done_in, entries_at, packets_sent}
 use Rattle.journal_laws.specs.Parts.{IsPart}
 use Rattle.journal_laws.proofs.Joining.{done_both}
-use Rattle.journal_laws.proofs.Parts.{parts_go_on}
+use Rattle.journal_laws.proofs.Parts.{journal_of_part, parts_go_on}
 use Rattle.std.proofs.lemmas.Grind.{flat_map-append}
 use Rattle.journal_laws.proofs.Running.{packets_more}
+use Rattle.journal_laws.proofs.Telling.{keeps_promises}
 use Rattle.journal_parts.specs.Closing.{AreSure, Closed, IsClosed, entries_in}
 use Rattle.journal_parts.specs.GoingOn.{AreSound, kept_in, numbers_behind}
-use Rattle.journal_parts.specs.Histories.{AreSureInAll, ClosesParts, entries_of_all}
+use Rattle.journal_parts.specs.Histories.{AreSureInAll, ClosesParts, KeepPromisesInAll, entries_of_all}
 use Rattle.journal_parts.specs.Numbers.{HaveNumbers, Numbers}
 use Rattle.journal_parts.proofs.GoingOn.{ends_there, numbers_go_on}
 
@@ -76,3 +77,11 @@ module _ {S : Type 0} (stored : S → Stored) (cluster : Cluster) (kept : ℕ �
       (closes.part sure packets have, numbers_go_on cluster numbers packets closed closes.register have)
   all_are_one packets have (suc parts) closed (before, other, earlier, sound, closes) (certain, sure) =
       one_more packets parts before closed other earlier sound closes sure (all_are_one packets have parts before earlier certain)
+
+  pub all_keep_promises : (parts : ℕ) (closed : Closed S) (closes : ClosesParts stored cluster kept numbers parts closed) →
+      KeepPromisesInAll stored cluster kept numbers parts closed closes
+  all_keep_promises parts closed closes sure packets have behind inputs lead =
+      let entries = entries_of_all stored cluster kept numbers parts closed closes in
+      let one = all_are_one packets have parts closed closes sure in
+      keeps_promises cluster behind inputs entries (ends_of parts closed closes)
+      (journal_of_part cluster behind inputs kept packets entries (ends_of parts closed closes) lead one.0)

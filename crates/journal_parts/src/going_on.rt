@@ -2,7 +2,7 @@
 
 ghost use Rattle.std.specs.Prelude.{◌≡◌, ◌↔◌, ◌++◌, IfOk, IsTrue, OnOk, length, map};
 ghost use Rattle.journal_parts.specs.GoingOn.{AreSound, BothAreOne, ClosedOnesGoOn, numbers_behind};
-ghost use Rattle.journal_parts.specs.Histories.{AllPartsAreOne};
+ghost use Rattle.journal_parts.specs.Histories.{AllPartsAreOne, AllPartsKeepPromises};
 ghost use Rattle.journal_parts.specs.Members.{posted};
 ghost use Rattle.journal_parts.specs.Numbers.{all_from, all_sent_by, sent_by};
 
@@ -53,9 +53,11 @@ pub fn closed_journals_go_on<S: StableStore>()
     ensures one { BothAreOne S.stored }
 {}
 
-/// What a proof takes of parts that were closed one behind the other: all of them are one part. The call does nothing.
+/// What a proof takes of parts that were closed one behind the other: all of them are one part, which keeps all promises together with each run that leads to
+/// where the first of them began. The call does nothing.
 pub fn all_parts_are_one<S: StableStore>()
-    ensures { AllPartsAreOne S.stored }
+    ensures one { AllPartsAreOne S.stored }
+    ensures promises { AllPartsKeepPromises S.stored }
 {}
 
 /// Whether none of them is astray.

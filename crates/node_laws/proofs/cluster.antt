@@ -9,3 +9,4 @@ pub mod Delivered
 pub mod Fresh
 pub mod Chosen
 pub mod OneReceipt
+pub mod GivenOut

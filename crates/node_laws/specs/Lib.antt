@@ -6,3 +6,4 @@ pub mod Steps
 pub mod Runs
 pub mod Clusters
 pub mod Chosen
+pub mod GivenOut

@@ -26,6 +26,7 @@ ghost use Rattle.node_laws.specs.Clusters.{
   outputs_at,
   receipts_given,
 };
+ghost use Rattle.node_laws.specs.GivenOut.{Cancels, CancelsDelete, ReceiptsStand};
 
 /// For every list of inputs of a cluster of nine nodes at most, in which packets are delivered, lost, repeated or reordered and nodes
 /// stop and start anew, the nodes by what they keep run as the cluster of the model does: by exact steps of the same inputs, which
@@ -93,4 +94,18 @@ pub fn a_later_request_is_of_a_known_message()
 /// And of each message_id one receipt is given out at most, by whatever node and in whichever of its lives, however often nodes stop and start anew.
 pub fn one_receipt_is_given_out()
     ensures { (cluster : Cluster) (inputs : List NodeInput) → MayHappen cluster inputs → OneOfEach (receipts_given (cluster_outputs cluster inputs)) }
+{}
+
+/// And ESME_ROK to a cancel_sm states that its message is DELETED: so no attempt of it is granted behind that, at any node.
+pub fn a_cancelled_message_is_given_out_as_deleted()
+    ensures deleted { (cluster : Cluster) (inputs : List NodeInput) → MayHappen cluster inputs → CancelsDelete (cluster_outputs cluster inputs) }
+    ensures no_grant { (cluster : Cluster) (inputs : List NodeInput) → MayHappen cluster inputs →
+        (cancelling granting : Outputs) (id : ℕ) → CameEarlier cancelling granting (cluster_outputs cluster inputs) →
+        Cancels cancelling id → GrantsOut granting id → ⊥ }
+{}
+
+/// And each receipt is of a message whose id names the node that gives it out, and stands on a chain that ends in a Told of that node.
+pub fn a_receipt_is_given_out_on_a_told_of_its_node()
+    ensures { (cluster : Cluster) (next : NodeInput) (inputs : List NodeInput) → MayHappen cluster (next ∷ inputs) →
+        ReceiptsStand next.node (outputs_at cluster inputs next) }
 {}

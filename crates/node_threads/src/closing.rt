@@ -4,9 +4,12 @@ ghost use Rattle.std.specs.Prelude.{◌≡◌, [], IfErr, IfOk, length};
 ghost use Rattle.node_laws.specs.Clusters.{kept_reached};
 ghost use Rattle.journal_parts.specs.Telling.{
   AcceptedAreKnown,
+  AllReceiptsStand,
   AreChosen,
+  CancelsTellDeleted,
   DeliveriesStand,
   DeliveriesStandInTheRun,
+  GrantNoneAfterACancel,
   GrantNoneAfterAFate,
   IdsAreNotRefusedAtOnce,
   LaterQueriesAreTold,
@@ -42,17 +45,27 @@ impl<S: StableStore + Drop, L: Begins> Cluster<S, L> {
     /// Closes a cluster with all seats that have slips: its journal, in which each node's entries are those that it has, and each slip of a seat stands at its
     /// number, which rise. It takes no memory.
     ///
+    /// What is said of states, receipts, grants and later requests is said of the run that led to the journal and of its entries together: also of what was told
+    /// over the same stores before nodes opened them.
+    ///
     /// Missing comes if the numbers of the slips are not those of the entries, each once, and Differs else if the comparison fails. Then the cluster and the
     /// seats come back. No clause says that seats of this cluster never meet Differs: tests do, of answers that were not Full.
     pub fn close(self, seats: Vec<Seat<L>>) -> Result<Journal<S>, SeatsOut<S, L>>
         ensures closed { IfOk result (λ journal. IsClosed S.stored L.cluster L.kept L.numbers journal) }
         ensures each { IfOk result (λ journal. EachOnce (length (entries_in journal)) seats.items) }
         ensures stand { IfOk result (λ journal. AllStand L.numbers.count (entries_in journal) seats.items) }
-        ensures fate { IfOk result (λ journal. Behind S.stored L.cluster L.kept L.numbers journal (λ behind inputs. TellOneFate (entries_in journal))) }
+        ensures fate { IfOk result (λ journal. Behind S.stored L.cluster L.kept L.numbers journal
+            (λ behind inputs. TellOneFate L.cluster inputs (entries_in journal))) }
         ensures receipts { IfOk result (λ journal. Behind S.stored L.cluster L.kept L.numbers journal
             (λ behind inputs. TellOneReceipt L.cluster inputs (entries_in journal))) }
         ensures grants { IfOk result (λ journal. Behind S.stored L.cluster L.kept L.numbers journal
-            (λ behind inputs. GrantNoneAfterAFate (entries_in journal))) }
+            (λ behind inputs. GrantNoneAfterAFate L.cluster inputs (entries_in journal))) }
+        ensures cancels { IfOk result (λ journal. Behind S.stored L.cluster L.kept L.numbers journal
+            (λ behind inputs. CancelsTellDeleted L.cluster inputs (entries_in journal))) }
+        ensures cancelled { IfOk result (λ journal. Behind S.stored L.cluster L.kept L.numbers journal
+            (λ behind inputs. GrantNoneAfterACancel L.cluster inputs (entries_in journal))) }
+        ensures receipts_stand { IfOk result (λ journal. Behind S.stored L.cluster L.kept L.numbers journal
+            (λ behind inputs. AllReceiptsStand (entries_in journal))) }
         ensures chosen { IfOk result (λ journal. Behind S.stored L.cluster L.kept L.numbers journal
             (λ behind inputs. AreChosen L.cluster.nodes (kept_reached L.cluster inputs).packets (entries_in journal))) }
         ensures deliveries { IfOk result (λ journal. Behind S.stored L.cluster L.kept L.numbers journal
@@ -60,9 +73,9 @@ impl<S: StableStore + Drop, L: Begins> Cluster<S, L> {
         ensures deliveries_here { IfOk result (λ journal. Behind S.stored L.cluster L.kept L.numbers journal
             (λ behind inputs. inputs ≡ [] → DeliveriesStand (entries_in journal))) }
         ensures queries { IfOk result (λ journal. Behind S.stored L.cluster L.kept L.numbers journal
-            (λ behind inputs. LaterQueriesAreTold (entries_in journal))) }
+            (λ behind inputs. LaterQueriesAreTold L.cluster inputs (entries_in journal))) }
         ensures accepted { IfOk result (λ journal. Behind S.stored L.cluster L.kept L.numbers journal
-            (λ behind inputs. AcceptedAreKnown (entries_in journal))) }
+            (λ behind inputs. AcceptedAreKnown L.cluster inputs (entries_in journal))) }
         ensures at_once { IfOk result (λ journal. Behind S.stored L.cluster L.kept L.numbers journal
             (λ behind inputs. IdsAreNotRefusedAtOnce (entries_in journal))) }
         ensures seats { IfErr result (λ out. out.seats.items ≡ seats.items) }

@@ -24,5 +24,6 @@ pub use journal_parts::{
     all_parts_are_one, closed_journals_go_on,
 };
 pub use node_core::{Life, Node, Outputs, Permit};
+pub use opened::Opened;
 pub use opening::{open_nodes, opened_nodes_begin};
 pub use start_fault::StartFault;

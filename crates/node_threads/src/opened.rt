@@ -15,9 +15,9 @@ use std::alloc::Global;
 use std::collections::VecDeque;
 use std::sync::Mutex;
 
-/// A cluster out of its locks: the nodes, node 1 first, and the journal.
+/// A cluster out of its locks: the nodes, node 1 first, and the journal. `Cluster::close` answers what `judge` does, and is made of these calls.
 #[derive(Drop)]
-pub(crate) struct Opened<S: StableStore, L: Begins> {
+pub struct Opened<S: StableStore, L: Begins> {
     alloc: Global,
     members: Vec<Member<S, L>>,
     register: Register<L>,
@@ -33,7 +33,7 @@ pub(crate) struct Opened<S: StableStore, L: Begins> {
 
 impl<S: StableStore + Drop, L: Begins> Opened<S, L> {
     /// Takes each value out of its lock. Nobody else has the cluster, so nobody waits; it takes no memory.
-    pub(crate) fn of(cluster: Cluster<S, L>) -> Opened<S, L> {
+    pub fn of(cluster: Cluster<S, L>) -> Opened<S, L> {
         let Cluster {
             alloc,
             mut locks,
@@ -55,7 +55,7 @@ impl<S: StableStore + Drop, L: Begins> Opened<S, L> {
     }
 
     /// Puts each value under its lock again. It takes no memory.
-    pub(crate) fn into_cluster(self) -> Cluster<S, L> {
+    pub fn into_cluster(self) -> Cluster<S, L> {
         let Opened {
             alloc,
             mut members,
@@ -77,7 +77,7 @@ impl<S: StableStore + Drop, L: Begins> Opened<S, L> {
 
     /// Whether the seats have the slips of all entries, and each slip, and each node's own entries, stand in the journal. Missing comes exactly if the numbers
     /// of the slips are not those of the entries, each once. It takes no memory.
-    pub(crate) fn judge(&mut self, seats: &[Seat<L>]) -> Result<(), SeatsFault>
+    pub fn judge(&mut self, seats: &[Seat<L>]) -> Result<(), SeatsFault>
         ensures each { OnOk result (EachOnce (length self.old.register.entries) seats.now) }
         ensures stand { OnOk result (AllStand L.numbers.count self.old.register.entries seats.now) }
         ensures found { OnOk result (AllFound S.stored L.cluster L.kept self.old.register.entries 0 (map (λ member. member.post) self.old.members.items)) }
@@ -95,7 +95,7 @@ impl<S: StableStore + Drop, L: Begins> Opened<S, L> {
     }
 
     /// What is left of the journal and of the nodes. It takes no memory.
-    pub(crate) fn into_journal(self) -> Journal<S>
+    pub fn into_journal(self) -> Journal<S>
         requires { AllFound S.stored L.cluster L.kept self.register.entries 0 (map (λ member. member.post) self.members.items) }
         ensures closed { IsClosed S.stored L.cluster L.kept L.numbers result }
         ensures entries { entries_in result ≡ self.register.entries }

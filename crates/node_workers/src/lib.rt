@@ -12,6 +12,7 @@ pub use hinting::hint;
 pub use home::Home;
 pub use node_threads::{
     Action, Attempt, Begins, Cluster, Defaults, Journal, Life, MOST_SEATS, Node, Outputs, Packet,
-    Refusal, Seat, Slip, StartFault, closed_journals_go_on, open_nodes, opened_nodes_begin,
+    Refusal, Seat, Slip, StartFault, all_parts_are_one, closed_journals_go_on, open_nodes,
+    opened_nodes_begin,
 };
 pub use working::worker;

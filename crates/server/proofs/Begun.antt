@@ -7,7 +7,7 @@ use Rattle.stable_store.specs.Stored.{Stored}
 use Rattle.node_workers.specs.Closing.{Closed, IsClosed}
 use Rattle.node_workers.specs.GoingOn.{AreSound, kept_in, numbers_behind}
 use Rattle.node_workers.specs.Numbers.{Numbers}
-use Rattle.node_workers.specs.Histories.{ClosesParts}
+use Rattle.node_workers.specs.Histories.{AllPartsKeepPromises, ClosesKept, ClosesParts}
 
 module _ {S : Type 0} (stored : S → Stored) (cluster : Cluster) (kept : ℕ → Kept) (numbers : Numbers) where
   -- it is closed behind some parts
@@ -29,3 +29,8 @@ module _ {S : Type 0} (stored : S → Stored) (cluster : Cluster) (kept : ℕ �
 
   pub there_is : (last : Option (Closed S)) (closed : Closed S) → last ≡ Some closed → IfSome last ClosesSome → ClosesSome closed
   there_is last closed same is = subst (λ (one : Option (Closed S)). IfSome one ClosesSome) same is
+
+  -- and what all parts keep
+  pub kept_by_all : AllPartsKeepPromises stored → (last : Option (Closed S)) → IfSome last ClosesSome → IfSome last (ClosesKept stored cluster kept numbers)
+  kept_by_all promises None is = is
+  kept_by_all promises (Some closed) (parts, closes) = (parts, closes, promises cluster kept numbers parts closed closes)

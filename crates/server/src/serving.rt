@@ -3,7 +3,7 @@
 ghost use Rattle.std.specs.Prelude.{◌≡◌, ℕ, length, IfOk, IfSome};
 ghost use Rattle.node_workers.specs.Numbers.{none_sent};
 ghost use Rattle.node_workers.specs.Actions.{AllBegin};
-ghost use Rattle.node_workers.specs.Histories.{ClosesParts};
+ghost use Rattle.node_workers.specs.Histories.{ClosesKept, ClosesParts};
 
 use crate::ending::{End, Ending};
 use crate::house::{Counters, House};
@@ -19,7 +19,7 @@ use config::{Config, Own};
 use connection_parts::Timepiece;
 use crossbeam_channel::unbounded;
 use mc_types::NodeNo;
-use node_workers::{Begins, Cluster, Journal, Life, Node};
+use node_workers::{Begins, Cluster, Journal, Life, Node, all_parts_are_one};
 use stable_store::StableStore;
 use std::alloc::{AllocError, Global};
 use std::collections::VecDeque;
@@ -90,8 +90,9 @@ pub fn serve<
     requires numbers { L.numbers ≡ none_sent }
     requires begin { AllBegin L.cluster L.kept beginning.nodes.items }
     requires count { length beginning.nodes.items ≡ L.cluster.nodes }
-    ensures closed { IfOk result (λ served. IfSome served.journal (λ journal. (parts : ℕ) × ClosesParts S.stored L.cluster L.kept L.numbers parts journal)) }
+    ensures closed { IfOk result (λ served. IfSome served.journal (λ journal. ClosesKept S.stored L.cluster L.kept L.numbers journal)) }
 {
+    all_parts_are_one::<S>();
     let Beginning { blank, nodes } = beginning;
     let cluster = Cluster::<S, L>::start(alloc, blank, nodes)?;
     let house = Arc::new(alloc, house_of(rt, alloc, doors, settings)?)?;

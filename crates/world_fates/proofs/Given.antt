@@ -10,6 +10,7 @@ use Rattle.mc_model.specs.node.Replies.{Removed}
 use Rattle.mc_model.specs.cluster.Fate.{shown_by}
 use Rattle.mc_model.specs.cluster.Steps.{Cluster}
 use Rattle.node_laws.specs.Clusters.{NodeInput, StatesFinal, cluster_outputs}
+use Rattle.node_laws.proofs.cluster.GivenOut.{removal_ends}
 use Rattle.pdu_tables.specs.StateCodes.{state_code}
 use Rattle.fate_chain.specs.States.{final_code, state_of}
 use Rattle.receipts.specs.Texts.{Report}
@@ -28,7 +29,7 @@ use Rattle.world_fates.proofs.node.Once.{of_all}
 use Rattle.world_fates.proofs.node.Telling.{IsMute, IsTold, Shows, delivery_is_mute, reply_is_told, report_tells_no_deletion, report_tells_no_state}
 use Rattle.world_fates.proofs.node.Behind.{behind, given_later}
 use Rattle.world_fates.proofs.node.ReceiptsOut.{IsReceiptOut}
-use Rattle.world_fates.proofs.node.StepsOut.{removal_ends, step_now}
+use Rattle.world_fates.proofs.node.StepsOut.{step_now}
 use Rattle.world_fates.proofs.node.Tellings.{IsTelling, NodePrint, TakesDeliveries, by_node, prints_at}
 use Rattle.world_fates.proofs.Worlds.{told_by, told_by_all}
 use Rattle.world_fates.proofs.Printing.{WorldSo}

@@ -8,7 +8,7 @@ use Rattle.mc_model.specs.node.Input.{Arrival, Input, Restart}
 use Rattle.mc_model.specs.node.Outputs.{Outputs, Reply}
 use Rattle.mc_model.specs.node.Replies.{Accepted, Answer as Told, Shown, Unknown}
 use Rattle.mc_model.specs.cluster.Steps.{Cluster}
-use Rattle.node_laws.specs.Clusters.{LivesOn as LivesIn, MayHappen, NodeInput, StatesFinal, comes_to, kept_reached, outputs_at}
+use Rattle.node_laws.specs.Clusters.{LivesOn as LivesIn, MayHappen, NodeInput, cluster_outputs, comes_to, kept_reached, outputs_at}
 use Rattle.node_laws.proofs.cluster.Fresh.{fresh, never_unknown}
 use Rattle.node_laws.proofs.cluster.Sources.{may_until}
 use Rattle.desk.specs.declared.request.Request.{Request as Asked}
@@ -20,7 +20,7 @@ use Rattle.world_runs.specs.Traces.{AcceptedAreKnown, Answer, BeginsAnew, Event,
 use Rattle.world_runs.specs.Traces.{LivesOn, StartedOver, Tried, told_by}
 use Rattle.world_runs.proofs.Coming.{arrived, node_of_step, started_by_step}
 use Rattle.world_runs.proofs.Events.{ComesBy, GoesOnBy, ReachesBy, given_in, goes_on_by, starts_only, until}
-use Rattle.world_runs.proofs.Tracing.{states_given, states_nothing}
+use Rattle.world_runs.proofs.Tracing.{IsStated, stated}
 
 module _ (cluster : Cluster) where
   abbrev reply : ℕ → ℕ → Told → Reply
@@ -116,6 +116,25 @@ module _ (cluster : Cluster) where
     by_reply step (Ok there) r may ticket id answer under lives node_is replied = answered_there step there r may ticket id answer under lives node_is replied
     by_reply step (Err fault) r may ticket id answer under lives node_is none = absurd none
 
+  -- ESME_ROK to a submit_sm was given out
+  pub record IsAccepted (last : List NodeInput) (taken id : ℕ) : Type 0 where
+    pub outputs : Outputs
+    pub among : In outputs (cluster_outputs cluster last)
+    pub accepts : In (reply taken id Accepted) outputs.replies
+
+  pub accepted : (inputs : List NodeInput) (events : List Event) (last : List NodeInput) → ReachesBy cluster inputs events last →
+      (accepting : Event) → In accepting events → (taken id : ℕ) → IsRepliedTo accepting taken id Accepted → IsAccepted last taken id
+  accepted inputs events last r (Tried step (Ok given)) among taken id accepts =
+      let it = given_in cluster inputs events last r step given among in
+      record {
+        outputs = it.outputs;
+        among = it.among;
+        accepts = subst (In (reply taken id Accepted)) (ap (λ (o : Outputs). o.replies) it.is.others) accepts;
+      }
+  accepted inputs events last r (Tried step (Err fault)) among taken id none = absurd none
+  accepted inputs events last r StartedOver among taken id none = absurd none
+  accepted inputs events last r (HaltedOver count fault) among taken id none = absurd none
+
   module _ (inputs : List NodeInput) (events : List Event) (last : List NodeInput)
       (r : ReachesBy cluster inputs events last) (may : MayHappen cluster last) where
     record IsAfter (older : List Event) (id : ℕ) (answer : Told) : Type 0 where
@@ -132,28 +151,37 @@ module _ (cluster : Cluster) where
         it.ticket id answer w.under it.lives it.node_is it.replied in
         record { before = there.before; reaches = there.reaches; is = there.is }
 
-    told_fate : (older : List Event) (telling : Event) (id : ℕ) (chain : List Decree) (final : Final) → In telling older →
-        StatesFinal (told_by telling) id final → IsAfter older id (Shown chain) → final_in chain ≡ Some final
-    told_fate older (Tried step (Ok given)) id chain final among says it =
-        let given_there = given_in cluster inputs older it.before it.reaches step given among in
-        fresh cluster it.before it.is.between it.is.node it.is.ticket it.is.request it.is.next id chain given_there.outputs final it.is.may given_there.among
-        (states_given given given_there.outputs given_there.is id final says) it.is.under it.is.lives it.is.replied
-    told_fate older (Tried step (Err fault)) id chain final among says it = absurd (states_nothing id final says)
-    told_fate older StartedOver id chain final among says it = absurd (states_nothing id final says)
-    told_fate older (HaltedOver count fault) id chain final among says it = absurd (states_nothing id final says)
+    -- what states a final state before the request came
+    told_fate : (older : List Event) (id : ℕ) (chain : List Decree) (final : Final) →
+        ((before : List NodeInput) → ReachesBy cluster inputs older before → IsStated cluster inputs before id final) →
+        IsAfter older id (Shown chain) → final_in chain ≡ Some final
+    told_fate older id chain final says it =
+        let said = says it.before it.reaches in
+        fresh cluster it.before it.is.between it.is.node it.is.ticket it.is.request it.is.next id chain said.outputs final it.is.may said.among
+        said.states it.is.under it.is.lives it.is.replied
 
-    known_still : (older : List Event) (accepting : Event) (taken id : ℕ) → In accepting older → IsRepliedTo accepting taken id Accepted →
-        IsAfter older id Unknown → ⊥
-    known_still older (Tried step (Ok given)) taken id among accepts it =
-        let given_there = given_in cluster inputs older it.before it.reaches step given among in
-        never_unknown cluster it.before it.is.between it.is.node it.is.ticket it.is.request it.is.next id given_there.outputs taken it.is.may given_there.among
-        (subst (In (reply taken id Accepted)) (ap (λ (o : Outputs). o.replies) given_there.is.others) accepts) it.is.under it.is.lives it.is.replied
-    known_still older (Tried step (Err fault)) taken id among none it = none
-    known_still older StartedOver taken id among none it = none
-    known_still older (HaltedOver count fault) taken id among none it = none
+    pub queries_are_told : (older : List Event) (id : ℕ) (chain : List Decree) (final : Final) →
+        ((before : List NodeInput) → ReachesBy cluster inputs older before → IsStated cluster inputs before id final) →
+        IsAnsweredLater events older id (Shown chain) → final_in chain ≡ Some final
+    queries_are_told older id chain final says it = told_fate older id chain final says (after older id (Shown chain) it)
 
     pub later_queries_are_told : LaterQueriesAreTold events
-    later_queries_are_told older telling id chain final among says it = told_fate older telling id chain final among says (after older id (Shown chain) it)
+    later_queries_are_told older telling id chain final among says =
+        queries_are_told older id chain final (λ before reaches. stated cluster inputs older before reaches telling among id final says)
+
+    -- and what accepts its message
+    known_still : (older : List Event) (taken id : ℕ) →
+        ((before : List NodeInput) → ReachesBy cluster inputs older before → IsAccepted before taken id) → IsAfter older id Unknown → ⊥
+    known_still older taken id accepts it =
+        let said = accepts it.before it.reaches in
+        never_unknown cluster it.before it.is.between it.is.node it.is.ticket it.is.request it.is.next id said.outputs taken it.is.may said.among
+        said.accepts it.is.under it.is.lives it.is.replied
+
+    pub messages_are_known : (older : List Event) (taken id : ℕ) →
+        ((before : List NodeInput) → ReachesBy cluster inputs older before → IsAccepted before taken id) →
+        IsAnsweredLater events older id Unknown → ⊥
+    messages_are_known older taken id accepts it = known_still older taken id accepts (after older id Unknown it)
 
     pub accepted_are_known : AcceptedAreKnown events
-    accepted_are_known older accepting taken id among accepts it = known_still older accepting taken id among accepts (after older id Unknown it)
+    accepted_are_known older accepting taken id among accepts =
+        messages_are_known older taken id (λ before reaches. accepted inputs older before reaches accepting among taken id accepts)

@@ -11,12 +11,13 @@ use Rattle.world.specs.declared.step.Step.{Step}
 use Rattle.world.specs.Runs.{Comes, IsAt, IsSomewhere, Leads, LosesNone}
 use Rattle.world.specs.Scenes.{Scene}
 use Rattle.world_runs.specs.Histories.{BecomesBy, History, numbered_by}
+use Rattle.world_runs.specs.Tellings.{AllReceiptsStand, CancelsAreDeletions, GrantsNoneAfterACancel, IdsAreNotRefusedAtOnce}
 use Rattle.world_runs.specs.Traces.{AcceptedAreKnown, Answer, AreChosen, AreCopies, DeliveriesStand, DeliveriesStandInRuns, Event, GoesTo}
 use Rattle.world_runs.specs.Traces.{GrantsNoneAfterAFate, HasOneFate, HasOneReceipt, LaterQueriesAreTold, LeadsAll, Tried, answers_in, events_of}
 use Rattle.world_runs.proofs.Coming.{started_by_step}
 use Rattle.world_runs.proofs.Copying.{becomes_of, copies_count}
 use Rattle.world_runs.proofs.Linking.{accepted_known, chosen_all, deliveries_stand_in, goes_on_by, grants_none_after, has_one_fate, has_one_receipt}
-use Rattle.world_runs.proofs.Linking.{later_queries_told}
+use Rattle.world_runs.proofs.Linking.{cancelled_stay, cancels_delete_all, ids_known, later_queries_told, receipts_stand_all}
 use Rattle.world_runs.proofs.Standing.{deliveries_stand_in_run}
 
 -- ---- steps with their answers, as events
@@ -182,6 +183,18 @@ module _ (old new : Scene) (steps : List Step) (answers : List Answer) (is : IsS
 
   pub known_of : AcceptedAreKnown (events_of steps answers)
   known_of = accepted_known history
+
+  pub cancels_of : CancelsAreDeletions answers
+  cancels_of = subst CancelsAreDeletions (answers_are steps answers all.count) (cancels_delete_all history)
+
+  pub cancelled_of : GrantsNoneAfterACancel answers
+  cancelled_of = subst GrantsNoneAfterACancel (answers_are steps answers all.count) (cancelled_stay history)
+
+  pub receipts_of : AllReceiptsStand (events_of steps answers)
+  receipts_of = receipts_stand_all history
+
+  pub at_once_of : IdsAreNotRefusedAtOnce (events_of steps answers)
+  at_once_of = ids_known history
 
   pub chosen_of : old.fresh ≡ true → AreChosen (length new.members) (map packet_of new.packets) answers
   chosen_of fresh =

@@ -4,6 +4,8 @@ pub mod Tracing
 pub mod Coming
 pub mod Standing
 pub mod Asking
+pub mod Telling
+pub mod Refusing
 pub mod Voting
 pub mod Choosing
 pub mod Stating

@@ -9,12 +9,15 @@ use Rattle.synod_acceptor.specs.Packets.{packet_of}
 use Rattle.world.specs.Runs.{IsAt, begin_anew}
 use Rattle.world.specs.Scenes.{Scene}
 use Rattle.world_runs.specs.Histories.{BecomesBy, History, numbered_by, packets_of}
+use Rattle.world_runs.specs.Tellings.{AllReceiptsStand, CancelsAreDeletions, GrantsNoneAfterACancel, IdsAreNotRefusedAtOnce}
 use Rattle.world_runs.specs.Traces.{AcceptedAreKnown, AreChosen, DeliveriesStand, Event, GrantsNoneAfterAFate, HaltedOver, HasOneFate}
 use Rattle.world_runs.specs.Traces.{HasOneReceipt, LaterQueriesAreTold, StartedOver, Tried, answers_in}
 use Rattle.world_runs.proofs.Asking.{accepted_are_known, later_queries_are_told}
 use Rattle.world_runs.proofs.Choosing.{are_chosen}
 use Rattle.world_runs.proofs.Events.{ReachesBy}
+use Rattle.world_runs.proofs.Refusing.{ids_not_refused}
 use Rattle.world_runs.proofs.Standing.{deliveries_stand}
+use Rattle.world_runs.proofs.Telling.{all_receipts_stand, cancels_are_deletions, grants_none_after_a_cancel}
 use Rattle.world_runs.proofs.Tracing.{grants_none, one_fate, one_receipt}
 
 -- one history after another
@@ -93,6 +96,18 @@ module _ (h : History) where
 
   pub accepted_known : AcceptedAreKnown h.events
   accepted_known = accepted_are_known h.stands.cluster h.stands.inputs h.events led.last led.reaches led.at.may
+
+  pub cancels_delete_all : CancelsAreDeletions (answers_in h.events)
+  cancels_delete_all = cancels_are_deletions h.stands.cluster h.stands.inputs h.events led.last led.reaches led.at.may
+
+  pub cancelled_stay : GrantsNoneAfterACancel (answers_in h.events)
+  cancelled_stay = grants_none_after_a_cancel h.stands.cluster h.stands.inputs h.events led.last led.reaches led.at.may
+
+  pub receipts_stand_all : AllReceiptsStand h.events
+  receipts_stand_all = all_receipts_stand h.stands.cluster h.stands.inputs h.events led.last led.reaches led.at.may
+
+  pub ids_known : IdsAreNotRefusedAtOnce h.events
+  ids_known = ids_not_refused h.stands.cluster h.stands.inputs h.events led.last led.reaches
 
   -- if no step was taken before
   reaches_all : h.first.fresh ≡ true → ReachesBy h.stands.cluster [] h.events led.last

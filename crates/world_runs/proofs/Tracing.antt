@@ -4,6 +4,7 @@ use Rattle.mc_model.specs.message.Decree.{Final}
 use Rattle.mc_model.specs.synod.Lists.{In}
 use Rattle.mc_model.specs.node.Outputs.{Outputs}
 use Rattle.mc_model.specs.cluster.Steps.{Cluster}
+use Rattle.mc_parts.proofs.Membership.{in_right}
 use Rattle.node_model.specs.Outputs.{nothing}
 use Rattle.node_laws.specs.Clusters.{GrantsOut, MayHappen, NodeInput, StatesFinal, cluster_outputs, outputs_at, receipts_given}
 use Rattle.node_laws.proofs.cluster.NoGrant.{no_grant}
@@ -18,7 +19,7 @@ use Rattle.world_runs.proofs.Events.{ReachesBy, events_cut, given_in, goes_on_by
 
 -- ---- an answer and what the model gives out
 
-abbrev states_so : (one other : Outputs) → other.replies ≡ one.replies → other.receipts ≡ one.receipts →
+abbrev pub states_so : (one other : Outputs) → other.replies ≡ one.replies → other.receipts ≡ one.receipts →
     (id : ℕ) (final : Final) → StatesFinal one id final → StatesFinal other id final
 states_so one other replies receipts id final says = record {
   chain = says.chain;
@@ -110,12 +111,20 @@ one_receipt cluster inputs events last r may id = let most = one_in_run cluster 
 
 module _ (cluster : Cluster) (inputs : List NodeInput) where
   -- what is told is given out
-  record IsStated (last : List NodeInput) (id : ℕ) (final : Final) : Type 0 where
-    outputs : Outputs
-    among : In outputs (cluster_outputs cluster last)
-    states : StatesFinal outputs id final
+  pub record IsStated (last : List NodeInput) (id : ℕ) (final : Final) : Type 0 where
+    pub outputs : Outputs
+    pub among : In outputs (cluster_outputs cluster last)
+    pub states : StatesFinal outputs id final
 
-  stated : (events : List Event) (last : List NodeInput) → ReachesBy cluster inputs events last → (event : Event) → In event events →
+  -- and so is what was given out before
+  pub given_before : (events : List Event) (last : List NodeInput) → ReachesBy cluster inputs events last → (outputs : Outputs) →
+      In outputs (cluster_outputs cluster inputs) → In outputs (cluster_outputs cluster last)
+  given_before events last r outputs among =
+      let way = goes_on_by cluster inputs events last r in
+      let since = outputs_since cluster way.newer inputs in
+      subst (In outputs) (sym (ap (cluster_outputs cluster) way.split ∙ since.1)) (in_right outputs since.0 (cluster_outputs cluster inputs) among)
+
+  pub stated : (events : List Event) (last : List NodeInput) → ReachesBy cluster inputs events last → (event : Event) → In event events →
       (id : ℕ) (final : Final) → StatesFinal (told_by event) id final → IsStated last id final
   stated events last r (Tried step (Ok given)) among id final says =
       let it = given_in cluster inputs events last r step given among in
@@ -133,21 +142,20 @@ module _ (cluster : Cluster) (inputs : List NodeInput) where
       let there = stated events last r (Tried another.0 other) another.1 id second tells in
       one_final cluster last may here.outputs there.outputs id first second here.among there.among here.states there.states
 
-  -- after one of the events nothing is granted of a message of which a final state was told before it
-  not_after : (before : List Event) (step : Step) (granting : Answer) (after : List Event) (last : List NodeInput) →
-      ReachesBy cluster inputs (before ++ Tried step granting ∷ after) last →
-      MayHappen cluster last → (telling : Event) (id : ℕ) (final : Final) → In telling before → StatesFinal (told_by telling) id final →
-      GrantsOut (told_in granting) id → ⊥
-  not_after before step (Ok given) after last r may telling id final among says grants =
+  -- after one of the events nothing is granted of a message of which a final state was given out before it
+  pub grants_none_behind : (before : List Event) (step : Step) (granting : Answer) (after : List Event) (last : List NodeInput) →
+      ReachesBy cluster inputs (before ++ Tried step granting ∷ after) last → MayHappen cluster last → (id : ℕ) (final : Final) →
+      ((mid : List NodeInput) → ReachesBy cluster inputs before mid → IsStated mid id final) → GrantsOut (told_in granting) id → ⊥
+  grants_none_behind before step (Ok given) after last r may id final says grants =
       let it = until cluster inputs before (Tried step (Ok given)) after last r in
       let next = it.goes_on.0 in
       let way = goes_on_by cluster (next ∷ it.mid) after last it.goes_on.4 in
-      let said = stated before it.mid it.reaches telling among id final says in
+      let said = says it.mid it.reaches in
       let since = outputs_since cluster way.newer (next ∷ it.mid) in
       no_grant cluster last may said.outputs (outputs_at cluster it.mid next) id final
       (record { newer = since.0; older = cluster_outputs cluster it.mid; split = ap (cluster_outputs cluster) way.split ∙ since.1; before = said.among })
       said.states (grants_given given (outputs_at cluster it.mid next) it.goes_on.3 id grants)
-  not_after before step (Err fault) after last r may telling id final among says grants = grants_nothing id grants
+  grants_none_behind before step (Err fault) after last r may id final says grants = grants_nothing id grants
 
   pub grants_none : (events : List Event) (last : List NodeInput) → ReachesBy cluster inputs events last → MayHappen cluster last →
       GrantsNoneAfterAFate (answers_in events)
@@ -155,4 +163,5 @@ module _ (cluster : Cluster) (inputs : List NodeInput) where
       let cut = events_cut events came.older granting came.newer came.split in
       let by = subst (λ (es : List Event). ReachesBy cluster inputs es last) cut.split r in
       let told = tried_of cut.before telling (subst (In telling) (sym cut.are) came.before) in
-      not_after cut.before cut.step granting cut.after last by may (Tried told.0 telling) id final told.1 says grants
+      grants_none_behind cut.before cut.step granting cut.after last by may id final
+      (λ mid reaches. stated cut.before mid reaches (Tried told.0 telling) told.1 id final says) grants

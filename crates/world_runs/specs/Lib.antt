@@ -4,5 +4,6 @@ pub use Rattle.world.specs.declared.fault.WorldFault
 pub use Rattle.world.specs.declared.given.Given
 pub use Rattle.world.specs.declared.step.Step
 pub mod Traces
+pub mod Tellings
 pub mod Histories
 pub mod Statements

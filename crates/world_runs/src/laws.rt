@@ -4,6 +4,7 @@ ghost use Rattle.std.specs.Prelude.{◌≡◌, ◌++◌, List, length, true};
 ghost use Rattle.world.specs.Scenes.{Scene};
 ghost use Rattle.world_runs.specs.Histories.{BecomesBy, History, packets_of};
 ghost use Rattle.world_runs.specs.Statements.{AreTold};
+ghost use Rattle.world_runs.specs.Tellings.{AllReceiptsStand, CancelsAreDeletions, GrantsNoneAfterACancel, IdsAreNotRefusedAtOnce};
 ghost use Rattle.world_runs.specs.Traces.{
   AcceptedAreKnown,
   Answer,
@@ -43,6 +44,17 @@ pub fn a_world_grants_nothing_after_a_fate()
     ensures { (h : History) → GrantsNoneAfterAFate (answers_in h.events) }
 {}
 
+/// ESME_ROK to a cancel_sm states that its message is DELETED; and after that the world never grants an attempt of it.
+pub fn a_world_deletes_what_is_cancelled()
+    ensures deleted { (h : History) → CancelsAreDeletions (answers_in h.events) }
+    ensures no_grant { (h : History) → GrantsNoneAfterACancel (answers_in h.events) }
+{}
+
+/// Each receipt is of a message whose id names the node that gives it out, and stands on a chain that ends in a Told of that node.
+pub fn a_world_tells_receipts_that_stand()
+    ensures { (h : History) → AllReceiptsStand h.events }
+{}
+
 /// Before a world that began with new stores tells DELIVERED of a message, it granted an attempt of it at the node of the attempt's author, and took its
 /// answer ESME_ROK there, in the same life of the node.
 pub fn a_world_tells_deliveries_that_stand()
@@ -56,8 +68,10 @@ pub fn a_world_tells_what_was_chosen()
 {}
 
 /// A query_sm that comes to a world after it told a final state of its message, and is answered by ESME_ROK in the same life of its node, is told that
-/// state; and no request that comes after ESME_ROK to the submit_sm of its message is answered so that there is no such message.
+/// state; and no request that comes after ESME_ROK to the submit_sm of its message is answered so that there is no such message, nor is any that names a
+/// message by its id refused so at once.
 pub fn a_world_answers_by_what_it_told()
     ensures told { (h : History) → LaterQueriesAreTold h.events }
     ensures known { (h : History) → AcceptedAreKnown h.events }
+    ensures at_once { (h : History) → IdsAreNotRefusedAtOnce h.events }
 {}

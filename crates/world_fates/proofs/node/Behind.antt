@@ -5,12 +5,13 @@ use Rattle.mc_model.specs.synod.Packet.{Packet}
 use Rattle.mc_model.specs.node.Act.{Act}
 use Rattle.mc_model.specs.node.Input.{Input}
 use Rattle.mc_model.specs.node.Outputs.{Outputs}
-use Rattle.mc_model.specs.cluster.Steps.{AreSteps, Cluster, acts_in, by_node}
+use Rattle.mc_model.specs.cluster.Steps.{Cluster, acts_in, by_node}
 use Rattle.mc_model.specs.cluster.World.{IsRun, World, reached, start}
 use Rattle.mc_laws.proofs.step.Behind.{reached_on}
 use Rattle.mc_laws.proofs.invariant.Reached.{Holds}
 use Rattle.node_laws.specs.Clusters.{MayHappen, NodeInput, cluster_outputs, kept_reached, world_at}
 use Rattle.node_laws.proofs.cluster.Clustered.{clustered, one_more}
+use Rattle.node_laws.proofs.cluster.GivenOut.{next_acts, next_run}
 use Rattle.node_laws.proofs.invariant.Orders.{in_append}
 use Rattle.world_fates.proofs.node.Decided.{IsDecided, decided_after}
 use Rattle.world_fates.proofs.node.Replying.{Grows, holds_then}
@@ -65,19 +66,10 @@ module _ (cluster : Cluster) where
   after_holds past may = world_holds cluster past (clustered cluster past may)
 
   module _ (next : NodeInput) (past : List NodeInput) (may : MayHappen cluster (next ∷ past)) where
-    -- the acts of one more input
-    abbrev pub next_acts : List Act
-    next_acts = (one_more cluster next past may).acts
-
-    pub next_run : IsRun (world_after past may.4) (by_node next.node next_acts)
-    next_run =
-        (subst (AreSteps cluster (start cluster.nodes cluster.serials)) (one_more cluster next past may).steps
-        (clustered cluster (next ∷ past) may).are).0.run
-
-    pub next_world : world_after (next ∷ past) may ≡ reached (world_after past may.4) (by_node next.node next_acts)
+    pub next_world : world_after (next ∷ past) may ≡ reached (world_after past may.4) (by_node next.node (next_acts cluster next past may))
     next_world =
         ap (world_at cluster) (one_more cluster next past may).steps
-        ∙ reached_on (start cluster.nodes cluster.serials) (by_node next.node next_acts) (acts_in (clustered cluster past may.4).steps)
+        ∙ reached_on (start cluster.nodes cluster.serials) (by_node next.node (next_acts cluster next past may)) (acts_in (clustered cluster past may.4).steps)
 
 -- what is decided at a node stays so, whichever node acts
 decided_by_acts : (by : ℕ) (w : World) → Holds w → (acts : List Act) → IsRun w (by_node by acts) → Grows w (reached w (by_node by acts))

@@ -9,6 +9,7 @@ use Rattle.mc_model.specs.cluster.Steps.{Cluster}
 use Rattle.mc_model.specs.cluster.World.{World}
 use Rattle.mc_laws.proofs.invariant.Reached.{Holds}
 use Rattle.node_laws.specs.Clusters.{MayHappen, NodeInput}
+use Rattle.node_laws.proofs.cluster.GivenOut.{next_acts, next_run, replies_are}
 use Rattle.pdu_tables.specs.StateCodes.{state_code}
 use Rattle.fate_chain.specs.States.{state_of}
 use Rattle.sessions.specs.Session.{Session}
@@ -20,8 +21,8 @@ use Rattle.script_text.specs.Runner.{Owned, Told, owner_of, replied, reply_print
 use Rattle.script_text.specs.Laws.{StatesFate}
 use Rattle.world_fates.proofs.node.Decided.{IsDecided}
 use Rattle.world_fates.proofs.node.Replying.{AreFit, Grows, replies_fit}
-use Rattle.world_fates.proofs.node.Behind.{after_holds, decided_next, next_acts, next_run, next_world, world_after}
-use Rattle.world_fates.proofs.node.StepsOut.{replies_are, step_now}
+use Rattle.world_fates.proofs.node.Behind.{after_holds, decided_next, next_world, world_after}
+use Rattle.world_fates.proofs.node.StepsOut.{step_now}
 use Rattle.world_fates.proofs.node.Telling.{IsMute, TellsFates, TellsOnly, delivery_is_mute, fates_told_later, mute_tells_fates, mute_tells_only, reply_is_told}
 use Rattle.world_fates.proofs.node.Telling.{reply_tells_fates, reply_tells_only, report_tells_fates, report_tells_no_state}
 use Rattle.world_fates.proofs.node.Tellings.{IsTelling, NodePrint, TakesDeliveries, by_node, prints_at}

@@ -1,5 +1,5 @@
-use Rattle.world_runs.proofs.Leading.{all_done, chosen_of, done_of, goes_on, known_of, later_of, leads_all, no_grant_of, one_fate_of, one_receipt_of}
-use Rattle.world_runs.proofs.Leading.{stand_in_runs, stands_of}
+use Rattle.world_runs.proofs.Leading.{all_done, at_once_of, cancelled_of, cancels_of, chosen_of, done_of, goes_on, known_of, later_of, leads_all, no_grant_of}
+use Rattle.world_runs.proofs.Leading.{one_fate_of, one_receipt_of, receipts_of, stand_in_runs, stands_of}
 use Rattle.world_runs.proofs.Stating.{agree}
 use Rattle.world_runs.proofs.running.run.Goals as goal
 
@@ -50,6 +50,27 @@ returns-clause-no_grant c =
     (all_done c.args.world.now c.loop-step.world c.in_ok-copies.copies.items c.from_vec-left.result.items c.loop-step.left.items c.pop_front.new.self.items
     c.loop-step.answers.items _ c.from_vec-left.ensures.items c.loop-step.invariant c.in_default.ensures.items c.in_default.ensures.rest))
 
+pub returns-clause-cancelled : goal.returns-clause-cancelled
+returns-clause-cancelled c =
+    cancels_of c.args.world.now c.loop-step.world c.args.steps.items c.loop-step.answers.items c.stands.ensures (
+    done_of c.args.world.now c.loop-step.world c.args.steps.items c.in_ok-copies.copies.items c.loop-step.answers.items c.in_ok-copies.ensures
+    (all_done c.args.world.now c.loop-step.world c.in_ok-copies.copies.items c.from_vec-left.result.items c.loop-step.left.items c.pop_front.new.self.items
+    c.loop-step.answers.items _ c.from_vec-left.ensures.items c.loop-step.invariant c.in_default.ensures.items c.in_default.ensures.rest))
+
+pub returns-clause-stays_cancelled : goal.returns-clause-stays_cancelled
+returns-clause-stays_cancelled c =
+    cancelled_of c.args.world.now c.loop-step.world c.args.steps.items c.loop-step.answers.items c.stands.ensures (
+    done_of c.args.world.now c.loop-step.world c.args.steps.items c.in_ok-copies.copies.items c.loop-step.answers.items c.in_ok-copies.ensures
+    (all_done c.args.world.now c.loop-step.world c.in_ok-copies.copies.items c.from_vec-left.result.items c.loop-step.left.items c.pop_front.new.self.items
+    c.loop-step.answers.items _ c.from_vec-left.ensures.items c.loop-step.invariant c.in_default.ensures.items c.in_default.ensures.rest))
+
+pub returns-clause-receipts_stand : goal.returns-clause-receipts_stand
+returns-clause-receipts_stand c =
+    receipts_of c.args.world.now c.loop-step.world c.args.steps.items c.loop-step.answers.items c.stands.ensures (
+    done_of c.args.world.now c.loop-step.world c.args.steps.items c.in_ok-copies.copies.items c.loop-step.answers.items c.in_ok-copies.ensures
+    (all_done c.args.world.now c.loop-step.world c.in_ok-copies.copies.items c.from_vec-left.result.items c.loop-step.left.items c.pop_front.new.self.items
+    c.loop-step.answers.items _ c.from_vec-left.ensures.items c.loop-step.invariant c.in_default.ensures.items c.in_default.ensures.rest))
+
 pub returns-clause-stands : goal.returns-clause-stands
 returns-clause-stands c fresh =
     stands_of c.args.world.now c.loop-step.world c.args.steps.items c.loop-step.answers.items c.stands.ensures (
@@ -81,6 +102,13 @@ returns-clause-fresh_answers c =
 pub returns-clause-known : goal.returns-clause-known
 returns-clause-known c =
     known_of c.args.world.now c.loop-step.world c.args.steps.items c.loop-step.answers.items c.stands.ensures (
+    done_of c.args.world.now c.loop-step.world c.args.steps.items c.in_ok-copies.copies.items c.loop-step.answers.items c.in_ok-copies.ensures
+    (all_done c.args.world.now c.loop-step.world c.in_ok-copies.copies.items c.from_vec-left.result.items c.loop-step.left.items c.pop_front.new.self.items
+    c.loop-step.answers.items _ c.from_vec-left.ensures.items c.loop-step.invariant c.in_default.ensures.items c.in_default.ensures.rest))
+
+pub returns-clause-at_once : goal.returns-clause-at_once
+returns-clause-at_once c =
+    at_once_of c.args.world.now c.loop-step.world c.args.steps.items c.loop-step.answers.items c.stands.ensures (
     done_of c.args.world.now c.loop-step.world c.args.steps.items c.in_ok-copies.copies.items c.loop-step.answers.items c.in_ok-copies.ensures
     (all_done c.args.world.now c.loop-step.world c.in_ok-copies.copies.items c.from_vec-left.result.items c.loop-step.left.items c.pop_front.new.self.items
     c.loop-step.answers.items _ c.from_vec-left.ensures.items c.loop-step.invariant c.in_default.ensures.items c.in_default.ensures.rest))

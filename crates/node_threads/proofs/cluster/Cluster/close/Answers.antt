@@ -5,7 +5,10 @@ use Rattle.journal_parts.proofs.Telling.{
   accepted_known,
   all_chosen,
   all_deliveries_stand,
+  all_receipts_stand,
+  cancels_tell_deleted,
   deliveries_stand_in_the_run,
+  grants_none_after_a_cancel,
   grants_nothing_after,
   ids_known,
   queries_told,
@@ -31,6 +34,24 @@ returns-in-Ok-clause-receipts g c = λ sure packets have before inputs lead.
 pub returns-in-Ok-clause-grants : goal.returns-in-Ok-clause-grants
 returns-in-Ok-clause-grants g c = λ sure packets have before inputs lead.
     grants_nothing_after g.L.Begins.cluster before inputs (entries_in c.into_journal.result) c.into_journal.ensures.closed.ends
+    (behind g.S.StableStore.stored g.L.Begins.cluster g.L.Begins.kept g.L.Begins.numbers c.into_journal.result c.into_journal.ensures.closed sure packets have
+    before inputs lead)
+
+pub returns-in-Ok-clause-cancels : goal.returns-in-Ok-clause-cancels
+returns-in-Ok-clause-cancels g c = λ sure packets have before inputs lead.
+    cancels_tell_deleted g.L.Begins.cluster before inputs (entries_in c.into_journal.result) c.into_journal.ensures.closed.ends
+    (behind g.S.StableStore.stored g.L.Begins.cluster g.L.Begins.kept g.L.Begins.numbers c.into_journal.result c.into_journal.ensures.closed sure packets have
+    before inputs lead)
+
+pub returns-in-Ok-clause-cancelled : goal.returns-in-Ok-clause-cancelled
+returns-in-Ok-clause-cancelled g c = λ sure packets have before inputs lead.
+    grants_none_after_a_cancel g.L.Begins.cluster before inputs (entries_in c.into_journal.result) c.into_journal.ensures.closed.ends
+    (behind g.S.StableStore.stored g.L.Begins.cluster g.L.Begins.kept g.L.Begins.numbers c.into_journal.result c.into_journal.ensures.closed sure packets have
+    before inputs lead)
+
+pub returns-in-Ok-clause-receipts_stand : goal.returns-in-Ok-clause-receipts_stand
+returns-in-Ok-clause-receipts_stand g c = λ sure packets have before inputs lead.
+    all_receipts_stand g.L.Begins.cluster before inputs (entries_in c.into_journal.result) c.into_journal.ensures.closed.ends
     (behind g.S.StableStore.stored g.L.Begins.cluster g.L.Begins.kept g.L.Begins.numbers c.into_journal.result c.into_journal.ensures.closed sure packets have
     before inputs lead)
 

@@ -18,12 +18,13 @@ use Rattle.desk.specs.Arrivals.{door_at, judged_as, next_id}
 use Rattle.desk.specs.declared.door.Door.{Door}
 use Rattle.desk.specs.declared.request.Request.{Request as Asked}
 use Rattle.desk.specs.declared.request.Request.TheVariants as asked
-use Rattle.world_runs.specs.Step.{Step}
-use Rattle.world_runs.specs.Runs.{Comes}
+use Rattle.world.specs.declared.given.Given.{Given}
+use Rattle.world.specs.declared.step.Step.{Step}
+use Rattle.world.specs.declared.step.Step.TheVariants as steps
+use Rattle.world.specs.Runs.{Comes}
+use Rattle.world_runs.specs.Tellings.{IdsAreNotRefusedAtOnce, Names}
+use Rattle.world_runs.specs.Traces.{Event, Tried}
 use Rattle.world_runs.proofs.Events.{ReachesBy, passed}
-use Rattle.journal_laws.specs.Journals.{Entry}
-use Rattle.journal_laws.specs.Telling.{IdsAreNotRefusedAtOnce, Names}
-use Rattle.journal_laws.proofs.Entries.{tried, tried_among, tried_in}
 
 -- ESME_RINVMSGID
 abbrev unknown : ℕ
@@ -87,17 +88,16 @@ refused_for setup k r is = by_up k.up refl
         ∙ is in
         absurd cc
 
-pub ids_not_refused : (cluster : Cluster) (inputs : List NodeInput) (entries : List Entry) (last : List NodeInput) →
-    ReachesBy cluster inputs (tried_in entries) last → IdsAreNotRefusedAtOnce entries
-ids_not_refused cluster inputs entries last r entry node account request id among step_is names refused =
-    let it = passed cluster inputs (tried_in entries) (tried entry.done) last r (tried_among entries entry among) in
+pub ids_not_refused : (cluster : Cluster) (inputs : List NodeInput) (events : List Event) (last : List NodeInput) →
+    ReachesBy cluster inputs events last → IdsAreNotRefusedAtOnce events
+ids_not_refused cluster inputs events last r node account request given id among names refused =
+    let it = passed cluster inputs events (Tried (steps.Request node account request) (Ok given)) last r among in
     let goes = it.until.goes_on in
     let w = kept_reached cluster it.until.mid in
     let setup = setup_of cluster node in
     let k = w.kept node in
-    let comes = subst (λ (step : Step). Comes cluster goes.1 w step goes.0) step_is goes.2 in
     let gave : (step_at cluster w goes.0).outputs.refused ≡ Some unknown =
     sym (ap (λ (o : Outputs). o.refused) goes.3.others) ∙ ap (λ (o : Option Status). option_map status_code o) refused in
     let here = refused_for setup k (admitted (door_at setup k) (next_id setup k) account request)
-    (sym (ap (λ (next : NodeInput). (step_at cluster w next).outputs.refused) comes) ∙ gave) in
+    (sym (ap (λ (next : NodeInput). (step_at cluster w next).outputs.refused) goes.2) ∙ gave) in
     named (door_at setup k) (next_id setup k) account request id names here.0 here.1 here.2
