@@ -1,8 +1,8 @@
 -- What a node of the code keeps, as the node's model says it.
-use Rattle.std.specs.Prelude.{◌≡◌, ◌≤◌, ℕ, suc, true, List, [], ◌∷◌, map, Option, Some, None}
+use Rattle.std.specs.Prelude.{◌≡◌, ◌≢◌, ◌≤◌, ◌⊎◌, ℕ, suc, true, List, [], ◌∷◌, map, Option, Some, None}
 use Rattle.std.specs.Map.{keys_of}
 use Rattle.mc_model.specs.synod.Packet.{Slot, slot_at}
-use Rattle.mc_model.specs.synod.Acceptor.{Records, SlotRecord, with_record}
+use Rattle.mc_model.specs.synod.Acceptor.{Records, SlotRecord, blank, with_record}
 use Rattle.mc_model.specs.node.Actor.{opening_clock}
 use Rattle.mc_model.specs.node.Setup.{Setup}
 use Rattle.node_model.specs.Message.{Message, unseen}
@@ -81,6 +81,10 @@ pub record IsOpen (with : Setup) (starts : ℕ) (records : Records) (k : Holding
   pub listed : AreRecorded records (keys_of k.messages.entries)
   pub own : AreOwn k
 
+-- one that keeps no record before keeps these
+abbrev pub HasFiled : Records → Holding → Holding → Type 0
+HasFiled records old new = (with : Setup) (starts : ℕ) → IsOpen with starts (λ slot. blank) old → IsOpen with starts records new
+
 -- one more record was taken in
 pub record IsFiled (old : Holding) (kept : Record) (new : Holding) : Type 0 where
   pub setup : new.setup ≡ old.setup
@@ -94,3 +98,9 @@ pub record IsFiled (old : Holding) (kept : Record) (new : Holding) : Type 0 wher
   pub listed : AreRecorded (records_of old.messages.entries) (keys_of old.messages.entries) →
       AreRecorded (records_of new.messages.entries) (keys_of new.messages.entries)
   pub own : AreOwn old → AreOwn new
+
+-- one more record was taken in, unless there was one of its slot
+pub record IsFirstFiled (old : Holding) (kept : Record) (new : Holding) : Type 0 where
+  pub promised : record_of kept ≢ blank
+  pub filed : ((records_of old.messages.entries (slot_recorded kept) ≡ blank) × IsFiled old kept new)
+      ⊎ ((records_of old.messages.entries (slot_recorded kept) ≢ blank) × (new ≡ old))

@@ -18,7 +18,7 @@ ghost use Rattle.synod_acceptor.specs.Records.{entries_of, record_at};
 ghost use Rattle.synod_acceptor.specs.Votes.{report_of, slot_in, slot_reported, told_vote, vote_of};
 ghost use Rattle.node_parts.specs.Lists.{listed};
 ghost use Rattle.node_kept.specs.Idling.{FindsNothing};
-ghost use Rattle.node_kept.specs.Keeping.{AreOwn, IsFiled, IsOpen, IsTaken, kept_of};
+ghost use Rattle.node_kept.specs.Keeping.{AreOwn, IsOpen, IsTaken, kept_of};
 ghost use Rattle.node_kept.specs.Listing.{ListsRecorded};
 ghost use Rattle.node_kept.specs.Queueing.{HasPlace, requeued};
 ghost use Rattle.node_kept.specs.declared.queue_change.QueueChange.TheVariants.{Same};
@@ -62,7 +62,7 @@ impl Kept {
         alloc: Global,
         setup: Setup,
         incarnation: Incarnation,
-        mut records: Vec<Record>,
+        records: Vec<Record>,
     ) -> Result<Kept, AllocError>
         ensures { IfOk result (IsOpen setup incarnation (record_at (entries_of records.items))) }
     {
@@ -77,9 +77,7 @@ impl Kept {
             queue: Queue::make(alloc)?,
             messages: MessageShelf::empty(alloc),
         };
-        while let Some(stored) = records.pop() {
-            kept.file(stored)?;
-        }
+        kept.file_all(records)?;
         Ok(kept)
     }
 
@@ -97,20 +95,6 @@ impl Kept {
         ensures { ListsRecorded (kept_of self.now) }
     {
         self.messages.ascends();
-    }
-
-    /// Takes in a record of its store.
-    #[inline(never)]
-    fn file(&mut self, stored: Record) -> Result<(), AllocError>
-        ensures { OnOk result (IsFiled self.old stored self.new) }
-    {
-        stored.promises();
-        let id = stored.slot().id;
-        let mut message = self.taken(id)?;
-        message.file(stored)?;
-        let next = self.next(id, message)?;
-        self.install(next);
-        Ok(())
     }
 
     /// The step that an input leads to, and the packet that came, if one did. It changes nothing, and copies what is kept of the input's message

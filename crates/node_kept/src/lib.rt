@@ -2,6 +2,7 @@
 #![tactic(auto)]
 
 mod arriving;
+mod filing;
 mod granting;
 mod kept;
 mod learning;

@@ -1,14 +1,23 @@
-use Rattle.std.proofs.Common.{◌≡◌, ◌++◌, ◌∷◌, [], rules}
-use Rattle.node_kept.proofs.Opening.{filing_ends, filing_goes_on}
+use Rattle.std.proofs.Common.{◌≤◌, ap, subst, refl}
+use Rattle.mc_model.specs.node.Setup.{Setup}
+use Rattle.waiting_requests.specs.Waiting.{held_in}
+use Rattle.node_kept.specs.declared.kept.Kept.{Kept as Holding}
+use Rattle.node_kept.proofs.Opening.{opens_empty}
 use Rattle.node_kept.proofs.kept.Kept.open.Goals as goal
-
-pub loop-stored-preserved : goal.loop-stored-preserved
-loop-stored-preserved c =
-    let split : c.loop-stored.records.items ≡ c.pop.new.self.items ++ c.in-Some.stored ∷ [] = search rules in
-    filing_goes_on c.args.setup c.args.incarnation c.loop-stored.records.items c.pop.new.self.items c.args.records.items c.in-Some.stored
-    c.loop-stored.kept c.file.new.self split c.in_ok-file.ensures c.loop-stored.invariant
 
 pub returns : goal.returns
 returns c =
-    let none : c.loop-stored.records.items ≡ [] = search rules in
-    filing_ends c.args.setup c.args.incarnation c.loop-stored.records.items c.args.records.items c.loop-stored.kept none c.loop-stored.invariant
+    let empty : Holding = record {
+      alloc = c.args.alloc;
+      setup = c.args.setup;
+      incarnation = c.args.incarnation;
+      clock = c.least.result;
+      serial = c.setup.inside.first_serial;
+      given = 0;
+      queue = c.in_ok-make.field-0;
+      messages = c.empty.result;
+    } in
+    let first : 1 ≤ c.args.setup.first_serial = subst (λ (s : Setup). 1 ≤ s.first_serial) c.setup.view_is c.setup.invariant.serial.least in
+    c.in_ok-file_all.ensures c.args.setup c.args.incarnation
+    (opens_empty c.args.setup c.args.incarnation empty refl refl c.least.ensures (ap (λ (s : Setup). s.first_serial) c.setup.view_is) refl
+    (ap held_in c.in_ok-make.ensures) c.empty.ensures first)
