@@ -2,6 +2,7 @@ pub use Rattle.node_kept.proofs.MessageShelfSendSync
 pub use Rattle.node_kept.proofs.stopped.Stopped.TheSendSync as StoppedSendSync
 pub use Rattle.node_kept.proofs.Listing
 pub mod Opening
+pub mod Loading
 pub mod Unsaved
 pub mod Saves
 pub mod Stopping

@@ -1,6 +1,6 @@
 -- A node that opens keeps what the model's opens over.
 use Rattle.std.proofs.Common.{◌≡◌, suc, ℕ, false, List, [], ◌∷◌, map, Option, refl, sym}
-use Rattle.std.proofs.Common.{ap, subst, ◌∙◌, ◌+◌, arith, true≢false}
+use Rattle.std.proofs.Common.{ap, subst, ◌∙◌, true≢false}
 use Rattle.std.proofs.Math.Path.{fun_ext}
 use Rattle.std.specs.Map.{keys_of}
 use Rattle.mc_model.specs.synod.Acceptor.{Records}
@@ -14,10 +14,10 @@ use Rattle.node_kept.specs.Keeping.{AreUnseen, IsOpen, acceptor_in, filed_as}
 use Rattle.node_kept.proofs.Listing.{listed_in}
 use Rattle.node_kept.proofs.Opening.{open_over}
 use Rattle.node_core.specs.declared.life.Life.{Life}
-use Rattle.stable_store.specs.Stored.{GoesOn, KeepsRecords, Leaves, Stays, Stored}
+use Rattle.stable_store.specs.Stored.{Stays, Stored}
 use Rattle.stable_store.specs.declared.fault.StoreFault.{StoreFault}
 use Rattle.stable_store.specs.declared.fault.StoreFault.TheVariants as faults
-use Rattle.node_core.specs.Nodes.{HasFound, HasOpened, Standing, StaysAt, breaks, records_in}
+use Rattle.node_core.specs.Nodes.{HasOpened, Standing, StaysAt, breaks, records_in}
 
 messages_are : (entries : List (ℕ × Filed)) → AreUnseen entries → map filed_as entries ≡ map (λ id. (id, unseen)) (keys_of entries)
 messages_are [] fresh = refl
@@ -49,22 +49,6 @@ opened with records starts node life is works of_node of_start = record {
 pub opens_with : (with : Setup) (starts : ℕ) (records : Records) (k : Kept) → IsOpen with starts records k → IsOpen with k.incarnation (records_in k) k
 opens_with with starts records k is =
     subst (λ (n : ℕ). IsOpen with n (records_in k) k) (sym is.incarnation) (open_over with starts records (records_in k) k is (λ slot. sym (is.kept slot)))
-
--- ---- what is loaded, and then the incarnation raised
-
-module _ (old mid new : Stored) (stays : Stays old mid) (leaves : Leaves old mid) where
-  pub has_found : (records : Records) (k : Kept) → mid.holds records → (mid.doubt ≡ 0 → mid.holds records → mid.may_hold records) →
-      records_in k ≡ records → ((started : ℕ) → new.doubt ≡ 0 → mid.has_started started → k.incarnation ≡ started + 1) → new.has_started k.incarnation →
-      KeepsRecords mid new → GoesOn mid new → HasFound old new k
-  has_found records k holds found same next started keeps goes_on =
-      let sure : new.doubt ≡ 0 → mid.doubt ≡ 0 = λ (none : new.doubt ≡ 0). let less = goes_on.doubt in omega (arith, none, less) in
-      record {
-        found = λ none. subst old.may_hold (sym same) (leaves.records records (found (sure none) holds));
-        holds = subst new.holds (sym same) (keeps records holds);
-        next = λ n none has. next n none (stays.started n has);
-        started = started;
-        kept = λ rs held. keeps rs (stays.records rs held);
-      }
 
 -- a fault that leaves a node that works as it was left its store so, too
 pub stays_if : (fault : StoreFault) (old new : Stored) → breaks fault ≡ false → StaysAt fault old new → Stays old new

@@ -15,5 +15,6 @@ pub use Rattle.node_kept.specs.contracts.kept.Kept as ContractsKept
 pub mod Pendings
 pub mod Stops
 pub mod Nodes
+pub mod Loadings
 pub mod Permits
 pub mod Restarts

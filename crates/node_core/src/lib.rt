@@ -3,6 +3,7 @@
 
 mod laws;
 mod life;
+mod loaded;
 mod node;
 mod open;
 mod pending;
@@ -14,6 +15,7 @@ pub use laws::{
     reopens_as_crashed,
 };
 pub use life::Life;
+pub use loaded::Loaded;
 pub use node::Node;
 pub use node_kept::{Found, GrantRefusal, Input, Outputs, Setup, StepFault, Stopped, sender};
 pub use open::open_node;

@@ -6,8 +6,8 @@ ghost use Rattle.node_kept.specs.Keeping.{IsOpen};
 ghost use Rattle.node_core.specs.Nodes.{FailsToOpen, HasFound, IsCaused, OpensOver, StaysAt, records_in};
 
 use crate::life::Life;
+use crate::loaded::{Loaded, load, raise};
 use crate::node::Node;
-use mc_types::Incarnation;
 use node_kept::{Kept, Setup};
 use stable_store::{StableStore, StoreFault};
 use std::alloc::Global;
@@ -18,7 +18,7 @@ use std::alloc::Global;
 /// device failed, Damaged only if none that was ever stored is, and Incarnations only if all were used.
 pub fn open_node<S: StableStore>(
     alloc: Global,
-    mut store: S,
+    store: S,
     setup: Setup,
 ) -> Result<(Node<S>, Life), (StoreFault, S)>
     ensures ok { IfOk result (λ opened. OpensOver (S.stored store) setup (S.stored opened.0.store) opened.0 opened.1) }
@@ -26,12 +26,9 @@ pub fn open_node<S: StableStore>(
     ensures untold { IfOk result (λ opened. opened.0.stopped ≡ None) }
     ensures err { IfErr result (λ failed. FailsToOpen failed.0 (S.stored store) (S.stored failed.1)) }
 {
-    match begin(alloc, &mut store, setup) {
-        Ok(kept) => {
-            let life = Life::of(setup.node(), kept.incarnation());
-            Ok((Node::make(store, kept), life))
-        }
-        Err(fault) => Err((fault, store)),
+    match Loaded::of(alloc, store, setup) {
+        Ok(loaded) => loaded.begin(),
+        Err(failed) => Err(failed),
     }
 }
 
@@ -48,9 +45,7 @@ pub(crate) fn begin<S: StableStore>(
     ensures stays { IfErr result (λ fault. StaysAt fault (S.stored store.old) (S.stored store.new)) }
     ensures cause { IfErr result (λ fault. IsCaused fault (S.stored store.old) (S.stored store.new)) }
 {
-    let records = store.load()?;
-    let mut kept = Kept::open(alloc, setup, Incarnation::of(1), records)?;
-    let incarnation = store.next_incarnation()?;
-    kept.begin(incarnation);
+    let mut kept = load(alloc, store, setup)?;
+    raise(store, &mut kept)?;
     Ok(kept)
 }

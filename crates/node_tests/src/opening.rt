@@ -4,7 +4,7 @@ ghost use Rattle.node_core.specs.Nodes.{IsLifeOf};
 
 use crate::same::assert_same;
 use crate::walks::{assert_part, input, opened_over, second, walked};
-use node_core::{Found, Life, Node, StepFault, open_node};
+use node_core::{Found, Life, Loaded, Node, StepFault, open_node};
 use stable_store::{FailingStore, Found as Leaves, ListStore, StableStore, StoreFault};
 use std::alloc::Global;
 use std::process::Abort;
@@ -66,6 +66,27 @@ fn each_start_is_another_incarnation(rt: HostRuntime) {
     let (third, store) = started(&rt, alloc, store);
     drop(store);
     assert_same(&rt, &[first, second, third], &[(2, 1), (2, 2), (2, 3)]);
+}
+
+// The number and the incarnation of the second node of three that is loaded over a store, and begins then.
+fn begun(rt: &impl Abort, alloc: Global, store: ListStore) -> (u8, u16) {
+    let Ok(loaded) = Loaded::of(alloc, store, second(rt)) else {
+        panic!(rt; "it is loaded");
+    };
+    let number = loaded.setup().node().number();
+    let Ok((node, life)) = loaded.begin() else {
+        panic!(rt; "it begins");
+    };
+    drop(node);
+    (number, life.incarnation().number())
+}
+
+#[test]
+fn a_node_that_is_loaded_begins_later(rt: HostRuntime) {
+    let alloc = rt.alloc();
+    let (first, store) = started(&rt, alloc, ListStore::make(alloc));
+    let next = begun(&rt, alloc, store);
+    assert_same(&rt, &[first, next], &[(2, 1), (2, 2)]);
 }
 
 fn use_up(rt: &impl Abort, store: &mut ListStore) {
