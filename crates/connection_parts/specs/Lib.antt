@@ -1,7 +1,10 @@
 pub mod FrameQueues
 pub mod Outboxes
+pub mod OutboxLaws
 pub mod Places
 pub mod Laws
 pub mod Fitting
 pub mod Tallies
 pub mod Timepieces
+pub mod TimepieceLaws
+pub mod Stamps

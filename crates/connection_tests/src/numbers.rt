@@ -1,7 +1,7 @@
 //! Moments and counts.
 
 use crate::same::assert_same;
-use connection_parts::{Tally, moment_at};
+use connection_parts::{Tally, moment_at, stamp_at};
 
 #[test]
 fn a_moment_is_within_its_range(rt: HostRuntime) {
@@ -20,6 +20,25 @@ fn a_moment_is_within_its_range(rt: HostRuntime) {
             946684800, 946684800, 946684801, 1706700000, 4102444799, 4102444799,
         ],
     );
+}
+
+/// As Python's `datetime` has them.
+const STAMPS: &[(u64, &[u8; 24])] = &[
+    (0, b"2000-01-01T00:00:00.000Z"),
+    (951782400045, b"2000-02-29T00:00:00.045Z"),
+    (1795966208123, b"2026-11-29T15:30:08.123Z"),
+    (4102444800000, b"2099-12-31T23:59:59.000Z"),
+];
+
+#[test]
+fn a_stamp_is_its_moment(rt: HostRuntime) {
+    for (milliseconds, stamp) in STAMPS {
+        assert_same(
+            &rt,
+            &(*milliseconds, &stamp_at(*milliseconds)),
+            &(*milliseconds, *stamp),
+        );
+    }
 }
 
 #[test]
