@@ -30,10 +30,10 @@ use Rattle.node_threads.specs.Openings.{StandInOrder, cluster_of, kept_at, kept_
 -- ---- one after the other
 
 -- what was there before stands before the end
-before_end : {A : Type 0} (xs : List A) (x y : A) (place : ℕ) → slice_get (xs ++ x ∷ []) place ≡ Some y → (place ≡ length xs → ⊥) → slice_get xs place ≡ Some y
+pub before_end : {A : Type 0} (xs : List A) (x y : A) (place : ℕ) → slice_get (xs ++ x ∷ []) place ≡ Some y → (place ≡ length xs → ⊥) → slice_get xs place ≡ Some y
 before_end xs x y place is apart = elim (get_push xs place x y is) [ inl both ↦ absurd (apart both.0) | inr before ↦ before ]
 
-at_end : {A : Type 0} (xs : List A) (x y : A) (place : ℕ) → slice_get (xs ++ x ∷ []) place ≡ Some y → place ≡ length xs → y ≡ x
+pub at_end : {A : Type 0} (xs : List A) (x y : A) (place : ℕ) → slice_get (xs ++ x ∷ []) place ≡ Some y → place ≡ length xs → y ≡ x
 at_end xs x y place is last = elim (get_push xs place x y is) [
   | inl both ↦ both.1
   | inr before ↦ (let within = slice_get_within xs place y before in absurd (omega (arith, within, last)))

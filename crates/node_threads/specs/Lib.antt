@@ -11,4 +11,5 @@ pub use Rattle.node_core.specs.declared.life.Life
 pub mod Actions
 pub mod Defaults
 pub mod Openings
+pub mod Loadings
 pub mod Refusing

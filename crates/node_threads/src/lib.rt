@@ -8,6 +8,7 @@ mod cluster;
 mod defaults;
 mod going_on;
 mod hinting;
+mod loading;
 mod opened;
 mod opening;
 mod permitting;
@@ -23,7 +24,8 @@ pub use journal_parts::{
     Begins, Done, Entry, Journal, MOST_SEATS, Packet, Refusal, Seat, Slip, Unfinished,
     all_parts_are_one, closed_journals_go_on,
 };
-pub use node_core::{Life, Node, Outputs, Permit};
+pub use loading::{begin_nodes, load_nodes};
+pub use node_core::{Life, Loaded, Node, Outputs, Permit};
 pub use opened::Opened;
 pub use opening::{open_nodes, opened_nodes_begin};
 pub use start_fault::StartFault;

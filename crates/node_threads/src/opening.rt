@@ -66,7 +66,7 @@ fn open_each<S: StableStore + Drop>(
 }
 
 /// The setup of the node at this place, of so many.
-fn setup_at(place: usize, count: usize, defaults: Defaults) -> Setup
+pub(crate) fn setup_at(place: usize, count: usize, defaults: Defaults) -> Setup
     requires place { place < count }
     requires count { count ≤ 9 }
     ensures { result ≡ setup_with (place + 1) count defaults.first_serial defaults.default_validity }
@@ -100,7 +100,7 @@ fn open_one<S: StableStore + Drop>(
 }
 
 /// Why the nodes of a cluster do not open if a store tells this of a node.
-fn fault_of(node: NodeNo, fault: StoreFault) -> StartFault
+pub(crate) fn fault_of(node: NodeNo, fault: StoreFault) -> StartFault
     ensures { result ≡ fault_at node fault }
 {
     match fault {

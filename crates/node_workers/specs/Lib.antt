@@ -4,6 +4,7 @@ pub use Rattle.node_threads.specs.Closing
 pub use Rattle.node_threads.specs.Defaults
 pub use Rattle.node_threads.specs.GoingOn
 pub use Rattle.node_threads.specs.Histories
+pub use Rattle.node_threads.specs.Loadings
 pub use Rattle.node_threads.specs.Numbers
 pub use Rattle.node_threads.specs.Openings
 pub mod Attempts

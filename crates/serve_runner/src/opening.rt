@@ -1,14 +1,13 @@
 //! What a server needs before it serves: its configuration, its nodes over their stores, and where they listen.
 
-ghost use Rattle.std.specs.Prelude.{◌≡◌, IfOk};
+ghost use Rattle.std.specs.Prelude.{◌≡◌, IfOk, length};
 ghost use Rattle.node_stores.specs.Stores.{kept_in};
-ghost use Rattle.server.specs.Actions.{AllBegin};
-ghost use Rattle.server.specs.Openings.{cluster_of, kept_at};
+ghost use Rattle.server.specs.Loadings.{AreLoaded, BeginAJournal};
 
 use crate::fault::ServeFault;
 use config::{Config, NodeConfig, Own, read_config, read_own};
 use node_stores::NodeStore;
-use server::{Defaults, Life, Node, StartFault, open_nodes, opened_nodes_begin};
+use server::{Defaults, Life, Loaded, Node, StartFault, begin_nodes, load_nodes};
 use std::alloc::Global;
 use std::fs;
 use std::net::{Net, SocketAddr, TcpListener, TcpStream};
@@ -64,16 +63,28 @@ fn number_of(place: usize) -> u8 {
     place.saturating_add(1).min(u8::MAX as usize) as u8
 }
 
-/// The nodes over these stores, that of node 1 first, and their lives.
-pub(crate) fn open_all(
+/// The nodes, loaded over these stores, that of node 1 first. Store tells of the first that can't be loaded.
+pub(crate) fn load_all(
     alloc: Global,
     stores: Vec<NodeStore>,
     defaults: Defaults,
-) -> Result<(Vec<Node<NodeStore>>, Vec<Life>), ServeFault>
-    ensures { IfOk result (λ opened. AllBegin (cluster_of opened.0.items defaults) (kept_at opened.0.items defaults) opened.0.items) }
+) -> Result<Vec<Loaded<NodeStore>>, ServeFault>
+    ensures { IfOk result (λ loaded. AreLoaded kept_in (length stores.items) defaults stores.items loaded.items) }
 {
-    opened_nodes_begin::<NodeStore>();
-    match open_nodes(alloc, stores, defaults) {
+    match load_nodes(alloc, stores, defaults) {
+        Ok(loaded) => Ok(loaded),
+        Err(fault) => Err(fault_of(fault)),
+    }
+}
+
+/// The nodes that were loaded, in their next incarnations, and their lives. Store tells of the first that has none left, or whose device failed.
+pub(crate) fn begin_all(
+    alloc: Global,
+    loaded: Vec<Loaded<NodeStore>>,
+) -> Result<(Vec<Node<NodeStore>>, Vec<Life>), ServeFault>
+    ensures { IfOk result (λ opened. BeginAJournal kept_in loaded.items opened.0.items) }
+{
+    match begin_nodes(alloc, loaded) {
         Ok(opened) => Ok(opened),
         Err(fault) => Err(fault_of(fault)),
     }

@@ -7,11 +7,12 @@ ghost use Rattle.serve_runner.specs.Beginnings.{defaults_in};
 
 use crate::asked::Options;
 use crate::fault::ServeFault;
-use crate::opening::{Configured, listen_all, open_all, open_stores, read_file};
+use crate::opening::{Configured, begin_all, listen_all, load_all, open_stores, read_file};
 use config::{Config, NodeConfig};
 use node_stores::NodeStore;
 use server::{
-    Beginning, Defaults, Doors, Ending, LAST_INCARNATION, Life, MOST_SEATS, Served, Settings, serve,
+    Beginning, Defaults, Doors, Ending, LAST_INCARNATION, Life, MOST_SEATS, Served, Settings,
+    serve, stamp,
 };
 use std::alloc::{AllocError, Global};
 use std::marker::Brand;
@@ -23,8 +24,8 @@ use std::sync::{Arc, Wait};
 use std::thread::Threads;
 
 /// Serves by the configuration in a file until it ends: how many entries its journal has, in all its parts. Of several faults that keep it from serving that
-/// of the file is told first, then those of the configuration, of stores that can't be opened, of the listeners, and of what the stores hold. So a start that
-/// fails at a listener uses up no incarnation. Once it serves, Ended or Journal tell why it ended, if it was not asked to.
+/// of the file is told first, then those of the configuration, of stores that can't be opened, of what they hold, of the listeners, and of stores that take no
+/// next incarnation. So a start that fails before uses up none. Once it serves, Ended or Journal tell why it ended, if it was not asked to.
 ///
 /// The lines that tell where nodes listen come once all stores are open, and all nodes listen; the line that the centre serves once all nodes may be served.
 pub fn serve_file<
@@ -49,8 +50,9 @@ pub fn serve_file<
     let Some(defaults) = Defaults::make(config.first_serial, config.default_validity) else {
         return Err(ServeFault::Memory);
     };
+    let loaded = load_all(alloc, stores, defaults)?;
     let listeners = listen_all(rt, alloc, &config.nodes)?;
-    let (nodes, lives) = open_all(alloc, stores, defaults)?;
+    let (nodes, lives) = begin_all(alloc, loaded)?;
     tell_start(rt, &config, &lives);
     let beginning = Beginning {
         blank: Blank::new(MOST_SEATS),

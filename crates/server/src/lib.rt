@@ -33,6 +33,6 @@ mod working;
 pub use ending::Ending;
 pub use mc_types::LAST_INCARNATION;
 pub use node_workers::{
-    Defaults, Life, MOST_SEATS, Node, StartFault, open_nodes, opened_nodes_begin,
+    Defaults, Life, Loaded, MOST_SEATS, Node, StartFault, begin_nodes, load_nodes,
 };
 pub use serving::{Beginning, Doors, Served, Settings, serve};

@@ -17,7 +17,8 @@ use journal_laws::nodes_that_open_begin_a_journal;
 use mc_types::NodeNo;
 use node_core::{Life, Node};
 use node_threads::{
-    Action, Begins, Cluster, Refusal, Seat, StartFault, open_nodes, opened_nodes_begin,
+    Action, Begins, Cluster, Refusal, Seat, StartFault, begin_nodes, load_nodes, open_nodes,
+    opened_nodes_begin,
 };
 use stable_store::{ListStore, StableStore, StoreFault};
 use std::alloc::Global;
@@ -149,6 +150,26 @@ fn as_many_nodes_open_as_may(rt: HostRuntime) {
     assert_same(&rt, &refused(&rt, alloc, 1), &None);
     assert_same(&rt, &refused(&rt, alloc, 9), &None);
     assert_same(&rt, &refused(&rt, alloc, 10), &Some(StartFault::Nodes));
+}
+
+/// What is loaded begins in its order. A store that is spent is loaded, and told of once its node is to begin.
+#[test]
+fn loaded_nodes_begin_in_order(rt: HostRuntime) {
+    let alloc = rt.alloc();
+    let two = new_stores(&rt, alloc, 2);
+    let loaded = load_nodes(alloc, two, defaults(&rt)).expect(&rt, "they are loaded");
+    let (nodes, lives) = begin_nodes(alloc, loaded).expect(&rt, "they begin");
+    drop(nodes);
+    let begun = (lives.len(), lives.get(1).expect(&rt, "a life").node());
+    assert_same(&rt, &begun, &(2, numbered(&rt, 2)));
+    let mut stores = new_stores(&rt, alloc, 1);
+    stores.push(spent(&rt, alloc)).expect(&rt, "memory");
+    let loaded = load_nodes(alloc, stores, defaults(&rt)).expect(&rt, "they are loaded");
+    let told = begin_nodes(alloc, loaded).err();
+    let wanted = StartFault::Open(numbered(&rt, 2), StoreFault::Incarnations);
+    assert_same(&rt, &told, &Some(wanted));
+    let none = load_nodes(alloc, new_stores(&rt, alloc, 0), defaults(&rt)).err();
+    assert_same(&rt, &none, &Some(StartFault::Nodes));
 }
 
 /// A store of which all incarnations were used.
