@@ -27,6 +27,7 @@ import contextlib
 import os
 import pathlib
 import random
+import re
 import resource
 import socket
 import struct
@@ -40,6 +41,7 @@ import pdus
 from centres import PASSWORD, bound, centre, octets_of, program_of, started
 from checks import Checks
 from plain_esme import NOT_READY, Ended, Esme, wait
+from serving import SESSION
 from steady import DESTINATION, NAME, Steady
 
 NODES = 3
@@ -51,6 +53,9 @@ SLOW_PEERS, FLOODED, CONNECTIONS, DEAF_MESSAGES, LARGE_MESSAGES = 20, 5_000, 1_0
 CROWD, CROWD_SECONDS = 300, 120
 # Within what time a peer that reads nothing is ended: the buffers of the system are full by then, and a write has waited for too long.
 CUT_SECONDS = 150
+# What is told of its end: a write waited for too long, or too much waited behind it.
+DEAF_ENDED = re.compile(SESSION + "ended: closed by the centre: (the ESME took nothing for too long|too many PDUs waited to be written); deaf from .+")
+TOLD_SECONDS = 5
 # What a peer may push into the centre and its own system's buffers before it has to wait; what the centre may grow by for each connection that is open, of
 # which each thread may take an area of memory of its own, and for what does not grow with connections.
 MOST_PUSHED, MOST_A_CONNECTION, MOST_GROWN = 64_000_000, 4_000_000, 64_000_000
@@ -229,6 +234,7 @@ class Rough:
         self.check("deaf_one_has_to_wait", is_ended or pushed < MOST_PUSHED, pushed)
         begun = time.monotonic()
         self.check("deaf_one_is_ended", is_ended or self.is_cut(deaf, CUT_SECONDS), "it is still connected")
+        self.check("deaf_one_is_told", self.serving.says(DEAF_ENDED, TOLD_SECONDS), self.serving.said)
         print(f"   it was ended {time.monotonic() - begun:.0f} s after its last octet was taken", flush=True)
         self.binds_in_time("beside_a_deaf_one", 2, 3)
         self.told("after a deaf receiver", before)

@@ -11,7 +11,10 @@ PROGRAM is the built program. Each part starts it over files of its own, in thre
     taken_port          somebody has the port of node 2: each of twenty starts (a hundred with --long) says so, ends, and uses up no incarnation
     clock               the system's clock alone goes back by an hour for two minutes, then ahead by thirty days for five seconds (needs Debian's faketime)
     silent_log          nobody reads standard error, and its pipe is full: binds and answers go on, and what was left out is told to who reads later
-    closed_descriptors  serve is started without standard input, output or error: an ESME reads PDUs alone, no store has a line of the log, and it starts again
+    closed_descriptors  serve is started without standard input, output or error: no connection and no store gets one of their numbers, an ESME reads PDUs alone,
+                        no store has a line of the log, and it starts again
+    ends                sessions end in each way that one peer alone can bring about, and a bind is refused: a line tells who ended it, whose it was, and
+                        from where
     stores              a store is missing, empty, older, another node's or two nodes' own, its key is misspelled, or there are fewer or more nodes than before:
                         each start is refused by status 1 and one line that names node and file, and no file is changed; a start is killed between two stores
     threads             the user of serve may start few more threads: who is bound goes on, and somebody new once others have gone (needs root)
@@ -44,7 +47,7 @@ from checks import Checks
 from kill import Client, serve_ready
 from plain_esme import Ended, Esme, wait
 from ports import free_ports, is_open
-from serving import SERVING, Serving
+from serving import SERVING, Serving, without_moment
 
 NODES, START_SECONDS, END_SECONDS = 3, 20, 30
 ACCOUNTS = {"sender": "9", "getter": "1", "absent": "2"}
@@ -72,11 +75,15 @@ SOON, SOON_SECONDS, BACK_SECONDS, AHEAD_SECONDS, TICK_SECONDS = "000000000020000
 PIPE, LOGGED, TOLD_SECONDS, LOST = 4096, 1000, 10, re.compile(r"log: \d+ lines were not told")
 
 # closed_descriptors: what is closed, in the words of a shell; and what is in lines of the log alone.
+STANDARD, HARMLESS = range(3), re.compile(r"/dev/null|pipe:\[\d+\]|/.+/serve\.out")
 CLOSED = {"all": "<&- >&- 2>&-", "input_and_output": "<&- >&-", "error": "2>&-"}
 LOG_WORDS = (b"listens on", b"serving:", b"connected from", b"bound as")
 
 # stores: how long after its first file a start is killed.
 PAUSES = (0, 0, 0, 0.001, 0.002, 0.005, 0.01, 0.02)
+
+# ends: after how many seconds a session ends on which nothing comes, or nobody binds.
+IDLE_SECONDS, BIND_SECONDS = 4, 2
 
 # threads: the user that serves and does nothing else, how many more threads it may start, how many bind then, and in what time their threads end.
 USER, MORE_THREADS, BINDS, GONE_SECONDS = 54_321, 45, 6, 3
@@ -126,7 +133,7 @@ class Unread(Serving):
     def read(self, process):
         fcntl.fcntl(process.stderr, fcntl.F_SETPIPE_SZ, PIPE)
         for line in process.stderr:
-            self.lines.append(line.rstrip("\n"))
+            self.lines.append(without_moment(line.rstrip("\n")))
             if SERVING.fullmatch(self.lines[-1]):
                 return
 
@@ -220,6 +227,56 @@ SLIPS = {
     "misspelled": Slip(misspell, "2", r"\bstor\b"),
     "three_made_one": Slip(count_one, "123"),
     "three_made_four": Slip(count_four, "1234"),
+}
+
+
+class Way(NamedTuple):
+    """What a peer does on its connection, what is told of it, whose it was, and how long the peer waits for that."""
+    does: Callable
+    words: str
+    whose: str = "sender"
+    seconds: float = 0
+
+
+def bind(esme, name="sender"):
+    esme.bind(name, PASSWORD)
+
+
+def unbind(esme):
+    bind(esme)
+    esme.ask(pdus.UNBIND)
+
+
+def send_half(esme):
+    bind(esme)
+    esme.send(pdus.frame(pdus.ENQUIRE_LINK, 2)[:10])
+
+
+def send_short(esme):
+    bind(esme)
+    esme.send(struct.pack(">I", 5))
+
+
+def reset(esme):
+    bind(esme)
+    esme.vanish()
+
+
+def refuse_request(esme):
+    bind(esme)
+    esme.answer(esme.submit(destination="5", short_message=b"nowhere"))
+
+
+ENDS = {
+    "unbound": Way(unbind, "ended: unbound"),
+    "closed": Way(bind, "ended: closed by the ESME"),
+    "cut_short": Way(send_half, "ended: closed by the ESME within a PDU"),
+    "reset": Way(reset, "ended: the connection failed"),
+    "wrong_length": Way(send_short, "ended: closed by the centre: a wrong command_length", seconds=TOLD_SECONDS),
+    "idle": Way(bind, "ended: closed by the centre: it was idle", seconds=TOLD_SECONDS),
+    "not_bound": Way(lambda esme: None, "ended: closed by the centre: nobody bound in time", "not bound,", TOLD_SECONDS),
+    "bind_refused": Way(lambda esme: bind(esme, "nobody"), "bind_transceiver refused with 0x0f, system_id nobody", "not bound,"),
+    "request_refused": Way(refuse_request, "submit_sm refused with 0x0b"),
 }
 
 
@@ -466,6 +523,21 @@ class Slips:
             return
         for node, port in enumerate(ports, 1):
             self.check(f"closed_{name}_serves_at_{node}", *self.served(port))
+        numbers = [os.readlink(f"/proc/{serving.process.pid}/fd/{number}") for number in STANDARD]
+        self.check(f"closed_{name}_numbers_are_harmless", all(map(HARMLESS.fullmatch, numbers)), numbers)
+
+    def ends(self):
+        with self.centre(idle_seconds=IDLE_SECONDS, bind_seconds=BIND_SECONDS) as (serving, ports):
+            started(serving)
+            for name, way in ENDS.items():
+                told = re.compile(rf"node 1 session \d+: {way.words}; {way.whose} from 127\.0\.0\.1:(\d+)")
+                with contextlib.suppress(Ended), Esme(ports[0]) as esme:
+                    here = esme.socket.getsockname()[1]
+                    way.does(esme)
+                    if way.seconds:
+                        wait([esme], lambda: serving.says(told), way.seconds)
+                found = serving.says(told, TOLD_SECONDS)
+                self.check(f"ends_{name}_is_told", found and int(found[1]) == here, serving.said)
 
     # Stores.
 
@@ -579,7 +651,8 @@ class Slips:
 
 
 PARTS = {"refused_submits": Slips.refused_submits, "taken_port": Slips.taken_port, "closed_descriptors": Slips.closed_descriptors,
-         "silent_log": Slips.silent_log, "stores": Slips.stores, "threads": Slips.threads, "slow_reader": Slips.slow_reader, "clock": Slips.clock}
+         "silent_log": Slips.silent_log, "ends": Slips.ends, "stores": Slips.stores, "threads": Slips.threads, "slow_reader": Slips.slow_reader,
+         "clock": Slips.clock}
 
 
 def main():

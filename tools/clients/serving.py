@@ -4,19 +4,23 @@ import subprocess
 import threading
 import time
 
+# Each line begins with its moment, by ISO 8601 in UTC.
+MOMENT = re.compile(r"(20\d\d-\d\d-\d\dT\d\d:\d\d:\d\d\.\d{3}Z) (.*)")
 LISTENS = re.compile(r"node (\d+): listens on 127\.0\.0\.1:(\d+), incarnation (\d+), store (.+)")
 SERVING = re.compile(r"serving: (system_id CENTRE, )?\d+ nodes?")
 ENDED = re.compile(r"ended: (\d+) entries in the journal")
 SESSION = r"node \d+ session \d+: "
 ROLE = "(transmitter|receiver|transceiver)"
+# Of whom a line tells.
+WHOM = r"; ([a-z0-9]+|not bound,) from 127\.0\.0\.1:\d+"
 # Each line that may stand on standard error while nothing is wrong.
 LINES = [LISTENS, SERVING, ENDED, *map(re.compile, (
     SESSION + r"connected from 127\.0\.0\.1:\d+",
-    SESSION + rf"bound as {ROLE} by [a-z0-9]+(, interface_version 0x[0-9a-f]{{2}})?",
-    SESSION + rf"bind_{ROLE} refused with 0x[0-9a-f]{{2}}",
-    SESSION + r"(submit_sm|query_sm|cancel_sm|unbind) refused with 0x[0-9a-f]{2}",
-    SESSION + r"nacked with 0x[0-9a-f]{2}",
-    SESSION + r"ended: [a-zA-Z][a-zA-Z_,: ]+",
+    SESSION + rf"bound as {ROLE}, interface_version 0x[0-9a-f]{{2}}{WHOM}",
+    SESSION + rf"bind_{ROLE} refused with 0x[0-9a-f]{{2}}, system_id [!-~]*{WHOM}",
+    SESSION + rf"(submit_sm|query_sm|cancel_sm|unbind) refused with 0x[0-9a-f]{{2}}{WHOM}",
+    SESSION + rf"nacked with 0x[0-9a-f]{{2}}{WHOM}",
+    SESSION + rf"ended: (unbound|closed by the ESME( within a PDU)?|the connection failed|closed by the centre: [a-zA-Z_ ]+){WHOM}",
     r"node \d+: no place for a session from 127\.0\.0\.1:\d+",
     r"node \d+: (it has few message_ids left; it starts anew|started anew, incarnation \d+)",
     r"node \d+: (its first tick is under way; it serves|through with its first tick)",
@@ -26,13 +30,19 @@ LINES = [LISTENS, SERVING, ENDED, *map(re.compile, (
 ))]
 
 
+def without_moment(line):
+    """A line without its moment; one that has none is told so, and is none that anybody looks for."""
+    found = MOMENT.fullmatch(line)
+    return found[2] if found else f"without a moment: {line}"
+
+
 class Serving:
     """`PROGRAM serve FILE --until-eof`. It ends when this process does, since its standard input is a pipe from here."""
 
     def __init__(self, program, config, folder):
         self.command, self.folder = [str(program), "serve", str(config), "--until-eof"], folder
         self.process, self.reader = None, None
-        # The lines of all starts, and where those of the last one begin.
+        # The lines of all starts, without their moments, and where those of the last one begin.
         self.lines, self.first = [], 0
 
     def start(self, seconds=20):
@@ -47,7 +57,7 @@ class Serving:
     def read(self, process):
         with open(self.folder / "serve.log", "a") as log:
             for line in process.stderr:
-                self.lines.append(line.rstrip("\n"))
+                self.lines.append(without_moment(line.rstrip("\n")))
                 print(line, end="", file=log, flush=True)
 
     def says(self, pattern, seconds=0):

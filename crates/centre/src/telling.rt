@@ -1,9 +1,9 @@
 //! What the program says, and its exit status.
 
-use serve_runner::ServeFault;
+use serve_runner::{ServeFault, stamp};
 use std::env;
 use std::process::ExitCode;
-use std::rt::Env;
+use std::rt::{Clock, Env};
 
 /// How the program is called.
 const HELP: &str = "\
@@ -39,14 +39,19 @@ pub fn tell_memory<R: Eprint>(rt: &R) -> ExitCode {
     failed(rt, ServeFault::Memory)
 }
 
-/// How a server ended.
-pub fn tell_served<R: Eprint>(rt: &R, served: Result<u64, ServeFault>) -> ExitCode {
+/// How a server ended, and when.
+pub fn tell_served<R: Eprint + Clock>(rt: &R, served: Result<u64, ServeFault>) -> ExitCode {
+    let stamp = stamp(rt);
     match served {
         Ok(entries) => {
-            let _ = eprintln!(rt; "ended: {entries} entries in the journal");
+            let _ = eprintln!(rt; "{stamp} ended: {entries} entries in the journal");
             ExitCode::from(0)
         }
-        Err(fault) => failed(rt, fault),
+        Err(fault) => {
+            let _ = eprintln!(rt; "{stamp} {fault}");
+            drop(fault);
+            ExitCode::from(1)
+        }
     }
 }
 

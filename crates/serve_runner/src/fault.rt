@@ -10,6 +10,8 @@ use std::net::SocketAddrV4;
 /// Why a server does not serve, or no longer.
 #[derive(Drop)]
 pub enum ServeFault {
+    /// `/dev/null` can't be opened.
+    Nothing,
     /// The file of the configuration can't be read.
     File(String),
     /// What stands in it is no configuration.
@@ -55,6 +57,7 @@ fn store_text(fault: StoreFault) -> &'static str {
 impl fmt::Display for ServeFault {
     fn fmt<W: fmt::Write>(&self, f: &mut fmt::Formatter<W>) -> fmt::Result {
         match self {
+            ServeFault::Nothing => f.write_str("/dev/null can't be opened"),
             ServeFault::File(path) => write!(f, "the file {path} can't be read"),
             ServeFault::Config(fault) => write!(f, "the configuration: {fault}"),
             ServeFault::Own(fault) => write!(f, "the configuration: {fault}"),

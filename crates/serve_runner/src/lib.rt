@@ -6,8 +6,10 @@ mod fault;
 mod inspecting;
 mod opening;
 mod running;
+mod standard;
 
 pub use asked::{Asked, Options, asked_by};
 pub use fault::ServeFault;
 pub use inspecting::inspect;
 pub use running::serve_file;
+pub use server::{Stamp, stamp};

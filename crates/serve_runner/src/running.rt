@@ -8,6 +8,7 @@ ghost use Rattle.serve_runner.specs.Beginnings.{defaults_in};
 use crate::asked::Options;
 use crate::fault::ServeFault;
 use crate::opening::{Configured, begin_all, listen_all, load_all, open_stores, read_file};
+use crate::standard::fill_standard;
 use config::{Config, NodeConfig};
 use node_stores::NodeStore;
 use server::{
@@ -23,12 +24,35 @@ use std::sync::ledger::Blank;
 use std::sync::{Arc, Wait};
 use std::thread::Threads;
 
-/// Serves by the configuration in a file until it ends: how many entries its journal has, in all its parts. Of several faults that keep it from serving that
-/// of the file is told first, then those of the configuration, of stores that can't be opened, of what they hold, of the listeners, and of stores that take no
-/// next incarnation. So a start that fails before uses up none. Once it serves, Ended or Journal tell why it ended, if it was not asked to.
+/// Serves by the configuration in a file until it ends: how many entries its journal has, in all its parts. Of several faults that keep it from serving
+/// Nothing is told first, then that of the file, those of the configuration, of stores that can't be opened, of what they hold, of the listeners, and of stores
+/// that take no next incarnation. So a start that fails before uses up none. Once it serves, Ended or Journal tell why it ended, if it was not asked to.
 ///
 /// The lines that tell where nodes listen come once all stores are open, and all nodes listen; the line that the centre serves once all nodes may be served.
 pub fn serve_file<
+    R: Threads
+        + Wait
+        + Clock
+        + Eprint
+        + Files
+        + Net<Listener = TcpListener, Stream = TcpStream>
+        + AllocGlobal
+        + Sync,
+>(
+    rt: &R,
+    host: &HostRuntime,
+    path: &str,
+    options: Options,
+    asked: Arc<AtomicBool>,
+) -> Result<u64, ServeFault> {
+    let standard = fill_standard(rt)?;
+    let served = serve_by(rt, host, path, options, asked);
+    drop(standard);
+    served
+}
+
+/// Serves so, with files that hold the numbers of standard input, output and error.
+fn serve_by<
     R: Threads
         + Wait
         + Clock
@@ -105,31 +129,32 @@ fn ended(served: Served<NodeStore>) -> Result<u64, ServeFault> {
 const LATE_INCARNATION: u16 = 9_000;
 
 /// Tells where each node listens, in which incarnation, and where its store is.
-fn tell_start<R: Eprint>(rt: &R, config: &Config, lives: &[Life]) {
+fn tell_start<R: Eprint + Clock>(rt: &R, config: &Config, lives: &[Life]) {
     for (node, life) in config.nodes.iter().zip(lives) {
         tell_node(rt, node, life);
     }
 }
 
 /// Tells where a node listens, in which incarnation, and where its store is.
-fn tell_node<R: Eprint>(rt: &R, node: &NodeConfig, life: &Life) {
+fn tell_node<R: Eprint + Clock>(rt: &R, node: &NodeConfig, life: &Life) {
     let number = life.node().number();
     let incarnation = life.incarnation().number();
     let address = node.listen;
+    let stamp = stamp(rt);
     let _ = match &node.store {
         Some(path) => {
             eprintln!(rt;
-                "node {number}: listens on {address}, incarnation {incarnation}, store {path}"
+                "{stamp} node {number}: listens on {address}, incarnation {incarnation}, store {path}"
             )
         }
         None => {
             eprintln!(rt;
-                "node {number}: listens on {address}, incarnation {incarnation}, store in memory"
+                "{stamp} node {number}: listens on {address}, incarnation {incarnation}, store in memory"
             )
         }
     };
     if incarnation >= LATE_INCARNATION {
         let left = LAST_INCARNATION.saturating_sub(incarnation);
-        let _ = eprintln!(rt; "node {number}: {left} incarnations are left");
+        let _ = eprintln!(rt; "{stamp} node {number}: {left} incarnations are left");
     }
 }

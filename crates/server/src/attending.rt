@@ -57,8 +57,8 @@ fn attend_on<
         connection.wait_to_serve(shift.rt);
         is_receiver = match connection.next(shift.rt) {
             Next::Rest => return None,
-            Next::End(reason) => return Some(ended(shift, connection, number, reason)),
-            Next::Frame(frame) => match serve_frame(shift, seat, number, frame) {
+            Next::End(reason) => return Some(ended(shift, number, reason)),
+            Next::Frame(frame) => match serve_frame(shift, connection, number, seat, frame) {
                 Ok(is_receiver) => is_receiver,
                 Err(reason) => return Some(reason),
             },
@@ -68,16 +68,17 @@ fn attend_on<
 }
 
 /// Serves a PDU: whether it bound the session so that it may receive. An `Err` is why the session ends, if it does.
-fn serve_frame<S: StableStore, L: Begins, R: Wait + Eprint>(
+fn serve_frame<S: StableStore, L: Begins, R: Wait + Eprint + Clock>(
     shift: &Shift<'_, S, L, R>,
-    seat: &mut Seat<L>,
+    connection: &Connection,
     number: u8,
+    seat: &mut Seat<L>,
     frame: Vec<u8>,
 ) -> Result<bool, Reason> {
     match heed(shift, seat, number, &frame) {
         Ok(heeded) => {
             let is_receiver = heeded.binds_receiver();
-            match told(shift, number, heeded) {
+            match told(shift, connection, number, heeded) {
                 Some(reason) => Err(reason),
                 None => Ok(is_receiver),
             }
@@ -90,7 +91,7 @@ fn serve_frame<S: StableStore, L: Begins, R: Wait + Eprint>(
 }
 
 /// Whether the session of a number may receive.
-fn may_receive<S: StableStore, L: Begins, R: Wait + Eprint>(
+fn may_receive<S: StableStore, L: Begins, R: Wait + Eprint + Clock>(
     shift: &Shift<'_, S, L, R>,
     number: u8,
 ) -> bool {
@@ -102,28 +103,29 @@ fn may_receive<S: StableStore, L: Begins, R: Wait + Eprint>(
 }
 
 /// Tells the operator what came of a PDU; why the session ends, if it does.
-fn told<S: StableStore, L: Begins, R: Wait + Eprint>(
+fn told<S: StableStore, L: Begins, R: Wait + Eprint + Clock>(
     shift: &Shift<'_, S, L, R>,
+    connection: &Connection,
     number: u8,
     heeded: Heeded,
 ) -> Option<Reason> {
     let Heeded { notice, is_gone } = heeded;
     if let Some(notice) = notice {
+        if let Notice::Bound(_, account, _) = &notice {
+            connection.bind(shift.rt, *account);
+        }
         shift.tell(number, notice);
     }
     is_gone.then_some(Reason::Unbound)
 }
 
-/// Why a session ends on which nothing more comes, for this reason: if its connection was lost, since a write failed or the server cut it, who read only saw
-/// that.
-fn ended<S: StableStore, L: Begins, R: Wait + Eprint>(
+/// Why a session ends on which nothing more comes, for this reason: as the server ends, who read only saw an end.
+fn ended<S: StableStore, L: Begins, R: Wait + Eprint + Clock>(
     shift: &Shift<'_, S, L, R>,
-    connection: &Connection,
     number: u8,
     reason: Reason,
 ) -> Reason {
     match reason {
-        Reason::Closed | Reason::CutShort if connection.is_lost(shift.rt) => Reason::Failed,
         Reason::Closed if shift.shared.house.is_over(shift.rt) => Reason::CentreEnds,
         Reason::WrongLength => {
             heed_wrong_length(shift, number);
@@ -134,12 +136,13 @@ fn ended<S: StableStore, L: Begins, R: Wait + Eprint>(
 }
 
 /// The session is over.
-pub(crate) fn end<S: StableStore, L: Begins, R: Wait + Eprint>(
+pub(crate) fn end<S: StableStore, L: Begins, R: Wait + Eprint + Clock>(
     shift: &Shift<'_, S, L, R>,
     number: u8,
     reason: Reason,
 ) {
+    let whom = shift.station.site.lock(shift.rt).whom(shift.rt, number);
     shift.station.site.lock(shift.rt).leave(shift.rt, number);
-    shift.tell(number, Notice::Ended(reason));
+    shift.tell_of(number, Notice::Ended(reason), whom);
     shift.shared.house.count_end(shift.rt);
 }

@@ -7,12 +7,15 @@ use crate::trouble::Trouble;
 use mc_types::MsgId;
 use node_workers::{Action, Begins, Packet, Seat, Slip};
 use stable_store::StableStore;
+use std::rt::Clock;
 use std::sync::Wait;
 use std::sync::atomic::Ordering;
 
 /// Hands in the packets that are told of, in ascending number, until the life of the node ends. One in whose step the node's store failed is handed in again
 /// in the next life.
-pub(crate) fn carry_on<S: StableStore, L: Begins, R: Wait + Eprint>(shift: &Shift<'_, S, L, R>) {
+pub(crate) fn carry_on<S: StableStore, L: Begins, R: Wait + Eprint + Clock>(
+    shift: &Shift<'_, S, L, R>,
+) {
     let Some(mut seat) = shift.seat() else {
         shift.shared.house.end.set(shift.rt, Ending::Threads);
         return;
@@ -28,7 +31,7 @@ pub(crate) fn carry_on<S: StableStore, L: Begins, R: Wait + Eprint>(shift: &Shif
 }
 
 /// Hands in all packets up to this number that the node was not handed, as far as none is refused.
-fn hand_in<S: StableStore, L: Begins, R: Wait + Eprint>(
+fn hand_in<S: StableStore, L: Begins, R: Wait + Eprint + Clock>(
     shift: &Shift<'_, S, L, R>,
     seat: &mut Seat<L>,
     newest: u64,
@@ -39,7 +42,7 @@ fn hand_in<S: StableStore, L: Begins, R: Wait + Eprint>(
 }
 
 /// Hands in all packets up to this number that the node was not handed.
-fn carry_to<S: StableStore, L: Begins, R: Wait + Eprint>(
+fn carry_to<S: StableStore, L: Begins, R: Wait + Eprint + Clock>(
     shift: &Shift<'_, S, L, R>,
     seat: &mut Seat<L>,
     newest: u64,
@@ -59,7 +62,7 @@ fn carry_to<S: StableStore, L: Begins, R: Wait + Eprint>(
 }
 
 /// Hands in a packet: what that gives out goes out.
-fn carry<S: StableStore, L: Begins, R: Wait + Eprint>(
+fn carry<S: StableStore, L: Begins, R: Wait + Eprint + Clock>(
     shift: &Shift<'_, S, L, R>,
     seat: &mut Seat<L>,
     number: u64,

@@ -2,16 +2,18 @@
 
 use crate::berth::Berth;
 use crate::inbox::{Inbox, Next};
-use crate::notice::Reason;
+use crate::notice::{Name, Reason, Whom};
+use crate::ticking::milliseconds_since;
 use connection_parts::{Frame, Job, Outbox, Withdrawal};
 use octet_io::CountedWriter;
 use std::alloc::{AllocError, Global};
-use std::net::{Shutdown, TcpStream};
+use std::io::ErrorKind;
+use std::net::{Shutdown, SocketAddr, TcpStream};
 use std::rt::Clock;
 use std::sync::atomic::{AtomicBool, Ordering};
 use std::sync::{Condvar, Mutex, Wait};
 use std::thread;
-use std::time::Duration;
+use std::time::{Duration, Instant};
 
 /// How many deliveries of a connection are under way at most: as many as its window has places.
 pub(crate) const WORKERS: usize = 10;
@@ -22,6 +24,18 @@ const LAST_LOOKS: usize = 600;
 /// How long it is slept between two looks, in milliseconds.
 const LAST_PAUSE: u64 = 50;
 
+/// For how long it is looked whether a stream stands on which a read failed, in milliseconds.
+const PROBE: u64 = 1;
+
+/// A stream to an ESME, from where it is, and for how many seconds a read and a write on it wait: 0 for ever.
+#[derive(Drop)]
+pub(crate) struct Wire {
+    pub(crate) stream: TcpStream,
+    pub(crate) address: SocketAddr,
+    pub(crate) idle_seconds: u32,
+    pub(crate) write_seconds: u32,
+}
+
 /// A connection with an ESME: its stream, what came and waits to be served, what waits to be written, and the places of its workers. Threads share it: who
 /// reads and who writes from its begin to its end, who serves and the workers in each life of their node.
 #[derive(Drop)]
@@ -30,7 +44,9 @@ pub(crate) struct Connection {
     pub(crate) serial: u64,
     /// When it began, in seconds since 1970.
     pub(crate) begun: u32,
-    pub(crate) stream: TcpStream,
+    pub(crate) wire: Wire,
+    /// The account of its session, once somebody has bound.
+    account: Mutex<Option<Name>>,
     inbox: Mutex<Inbox>,
     came: Condvar,
     outbox: Mutex<Outbox>,
@@ -45,12 +61,12 @@ pub(crate) struct Connection {
 }
 
 impl Connection {
-    /// A connection over this stream, on which nothing waits. An `Err` is want of memory.
+    /// A connection over this wire, on which nothing waits. An `Err` is want of memory.
     pub(crate) fn make(
         alloc: Global,
         serial: u64,
         begun: u32,
-        stream: TcpStream,
+        wire: Wire,
     ) -> Result<Connection, AllocError> {
         let mut berths = Vec::with_capacity(alloc, WORKERS)?;
         for _ in 0..WORKERS {
@@ -59,7 +75,8 @@ impl Connection {
         Ok(Connection {
             serial,
             begun,
-            stream,
+            wire,
+            account: Mutex::new(None),
             inbox: Mutex::new(Inbox::make(alloc)?),
             came: Condvar::new(),
             outbox: Mutex::new(Outbox::make(alloc)?),
@@ -69,6 +86,22 @@ impl Connection {
             rests: AtomicBool::new(false),
             is_attended: AtomicBool::new(false),
         })
+    }
+
+    // Whose it is.
+
+    /// Somebody has bound, for this account.
+    pub(crate) fn bind<R: Wait>(&self, rt: &R, account: Name) {
+        *self.account.lock(rt) = Some(account);
+    }
+
+    /// Whose session it is, and from where.
+    pub(crate) fn whom<R: Wait>(&self, rt: &R) -> Whom {
+        let account = *self.account.lock(rt);
+        Whom {
+            account,
+            address: self.wire.address,
+        }
     }
 
     // What comes.
@@ -107,9 +140,25 @@ impl Connection {
         next
     }
 
+    /// Why a read failed: if it may not wait for ever, the stream stands, and nothing has come since, it waited for too long.
+    pub(crate) fn read_failure(&self) -> Reason {
+        if self.wire.idle_seconds == 0 {
+            return Reason::Failed;
+        }
+        let stream = &self.wire.stream;
+        let _ = stream.set_read_timeout(Some(Duration::from_millis(PROBE)));
+        match stream.peek(&mut [0]) {
+            Err(error)
+                if error.kind() == ErrorKind::WouldBlock || error.kind() == ErrorKind::TimedOut => {
+                Reason::Idle
+            }
+            _ => Reason::Failed,
+        }
+    }
+
     /// Who reads reads its end; what waits to be written goes out.
     pub(crate) fn stop_reading(&self) {
-        let _ = self.stream.shutdown(Shutdown::Read);
+        let _ = self.wire.stream.shutdown(Shutdown::Read);
     }
 
     // What goes out.
@@ -143,7 +192,7 @@ impl Connection {
         let withdrawal = self.outbox.lock(rt).take_back(sequence);
         self.changed.notify_all();
         if withdrawal == Withdrawal::UnderWay {
-            self.lose(rt);
+            self.lose(rt, Reason::Deaf);
         }
         withdrawal == Withdrawal::Withdrawn
     }
@@ -156,7 +205,7 @@ impl Connection {
         };
         self.changed.notify_all();
         if !is_put && !is_shut {
-            self.lose(rt);
+            self.lose(rt, Reason::Crowded);
         }
     }
 
@@ -171,18 +220,29 @@ impl Connection {
     }
 
     /// Writes what waits, and waits for more, until nothing is to come any more. A write that fails loses the connection.
-    pub(crate) fn write_all<R: Wait>(&self, rt: &R) {
-        let mut writer = CountedWriter::make(&self.stream);
+    pub(crate) fn write_all<R: Wait + Clock>(&self, rt: &R) {
+        let mut writer = CountedWriter::make(&self.wire.stream);
         for _ in rt.forever() {
             let Some(frame) = self.next_frame(rt) else {
                 break;
             };
+            let begun = Instant::now(rt).ok();
             if writer.write_all(&frame.octets).is_err() {
-                self.lose(rt);
+                self.lose(rt, self.write_failure(rt, &begun));
             }
         }
-        let _ = self.stream.shutdown(Shutdown::Both);
+        let _ = self.wire.stream.shutdown(Shutdown::Both);
         self.is_through.store(true, Ordering::SeqCst);
+    }
+
+    /// Why a write failed that began then: it waited for too long, if it may not wait for ever and waited for as long as it may.
+    fn write_failure<R: Clock>(&self, rt: &R, begun: &Option<Instant>) -> Reason {
+        let most = u64::from(self.wire.write_seconds).saturating_mul(1_000);
+        if most > 0 && milliseconds_since(rt, begun) >= most {
+            Reason::Deaf
+        } else {
+            Reason::Failed
+        }
     }
 
     /// Waits until the session is over and what waited has gone out. What did not 30 seconds after its end is dropped, whatever the limit of a write: else an
@@ -199,7 +259,7 @@ impl Connection {
             }
             thread::sleep(rt, Duration::from_millis(LAST_PAUSE));
         }
-        self.lose(rt);
+        self.lose(rt, Reason::Deaf);
     }
 
     /// The next PDU to be written, for which it waits; none once nothing is to come any more. The one before it is written.
@@ -227,18 +287,13 @@ impl Connection {
         self.stop_reading();
     }
 
-    /// The connection is lost: what waits to be written is dropped, and nothing more comes.
-    pub(crate) fn lose<R: Wait>(&self, rt: &R) {
-        self.end_input(rt, Reason::Closed);
+    /// The connection is lost, for this reason, if it has not ended: what waits to be written is dropped, and nothing more comes.
+    pub(crate) fn lose<R: Wait>(&self, rt: &R, reason: Reason) {
+        self.end_input(rt, reason);
         self.outbox.lock(rt).cut();
         self.changed.notify_all();
         self.shut_berths(rt);
-        let _ = self.stream.shutdown(Shutdown::Both);
-    }
-
-    /// Whether nothing is to be written any more: before its session ends, this is so if it is lost.
-    pub(crate) fn is_lost<R: Wait>(&self, rt: &R) -> bool {
-        self.outbox.lock(rt).is_shut()
+        let _ = self.wire.stream.shutdown(Shutdown::Both);
     }
 
     /// Who serves and the workers are to rest, once they are through with what they do.

@@ -1,6 +1,6 @@
 //! What comes of a PDU of an ESME.
 
-use crate::notice::Notice;
+use crate::notice::{Name, Notice, is_bind};
 use crate::shift::Shift;
 use crate::site::Site;
 use crate::trouble::Trouble;
@@ -11,6 +11,7 @@ use pdu_tables::Status;
 use sessions::{Outgoing, Requested, Response};
 use stable_store::StableStore;
 use std::alloc::AllocError;
+use std::rt::Clock;
 use std::sync::Wait;
 
 /// What comes of a PDU for who reads it: what the operator is told, and whether the session is gone.
@@ -28,6 +29,25 @@ impl Heeded {
             _ => false,
         }
     }
+
+    /// The same of the PDU that has these octets.
+    fn named(self, frame: &[u8]) -> Heeded {
+        let Heeded { notice, is_gone } = self;
+        let notice = match notice {
+            Some(Notice::Refused(requested, status)) => Some(refused(requested, status, frame)),
+            other => other,
+        };
+        Heeded { notice, is_gone }
+    }
+}
+
+/// What an operator is told of a request that was refused, whose octets these are: of a bind, by which system_id.
+fn refused(requested: Requested, status: Status, frame: &[u8]) -> Notice {
+    if is_bind(requested) {
+        Notice::BindRefused(requested, status, Name::in_body(frame))
+    } else {
+        Notice::Refused(requested, status)
+    }
 }
 
 /// A request of a session.
@@ -38,7 +58,7 @@ struct Asking {
 }
 
 /// The octets of a frame came on a session: they are served under the lock of its node's site, so that the reply to a request finds its session.
-pub(crate) fn heed<S: StableStore, L: Begins, R: Wait + Eprint>(
+pub(crate) fn heed<S: StableStore, L: Begins, R: Wait + Eprint + Clock>(
     shift: &Shift<'_, S, L, R>,
     seat: &mut Seat<L>,
     number: u8,
@@ -51,11 +71,11 @@ pub(crate) fn heed<S: StableStore, L: Begins, R: Wait + Eprint>(
         .hear(&shift.shared.house.config, number, frame)?;
     let heeded = heed_heard(shift, site, seat, number, heard)?;
     site.post_on(shift.rt, number)?;
-    Ok(heeded)
+    Ok(heeded.named(frame))
 }
 
 /// Octets came on a session whose length is not that of a PDU: it is gone.
-pub(crate) fn heed_wrong_length<S: StableStore, L: Begins, R: Wait + Eprint>(
+pub(crate) fn heed_wrong_length<S: StableStore, L: Begins, R: Wait + Eprint + Clock>(
     shift: &Shift<'_, S, L, R>,
     number: u8,
 ) {
@@ -72,7 +92,7 @@ pub(crate) fn heed_wrong_length<S: StableStore, L: Begins, R: Wait + Eprint>(
     }
 }
 
-fn heed_heard<S: StableStore, L: Begins, R: Wait + Eprint>(
+fn heed_heard<S: StableStore, L: Begins, R: Wait + Eprint + Clock>(
     shift: &Shift<'_, S, L, R>,
     site: &mut Site,
     seat: &mut Seat<L>,
@@ -114,7 +134,7 @@ fn told(notice: Option<Notice>) -> Heeded {
 }
 
 /// A response goes out; what the operator is told of it.
-fn respond<S: StableStore, L: Begins, R: Wait + Eprint>(
+fn respond<S: StableStore, L: Begins, R: Wait + Eprint + Clock>(
     shift: &Shift<'_, S, L, R>,
     site: &mut Site,
     number: u8,
@@ -123,7 +143,7 @@ fn respond<S: StableStore, L: Begins, R: Wait + Eprint>(
     let system_id = &shift.shared.house.config.system_id;
     site.respond(shift.rt, system_id, number, outgoing)?;
     match outgoing.response {
-        Response::Bound(_, version) => bound(site, number, version),
+        Response::Bound(_, version) => Ok(bound(site, number, version)),
         Response::Refused(requested, status) => {
             site.tally.refused = site.tally.refused.saturating_add(1);
             Ok(Some(Notice::Refused(requested, status)))
@@ -134,18 +154,14 @@ fn respond<S: StableStore, L: Begins, R: Wait + Eprint>(
 }
 
 /// The notice of a session that is bound.
-fn bound(site: &Site, number: u8, version: u8) -> Result<Option<Notice>, AllocError> {
-    let Some(session) = site.service.sessions().get(&number) else {
-        return Ok(None);
-    };
-    let Some(account) = session.account() else {
-        return Ok(None);
-    };
-    Ok(Some(Notice::Bound(session.state(), account.copy()?, version)))
+fn bound(site: &Site, number: u8, version: u8) -> Option<Notice> {
+    let session = site.service.sessions().get(&number)?;
+    let account = session.account()?;
+    Some(Notice::Bound(session.state(), Name::of(account.octets()), version))
 }
 
 /// A request goes to the node: it waits on its session, or is refused there.
-fn ask<S: StableStore, L: Begins, R: Wait + Eprint>(
+fn ask<S: StableStore, L: Begins, R: Wait + Eprint + Clock>(
     shift: &Shift<'_, S, L, R>,
     site: &mut Site,
     seat: &mut Seat<L>,
@@ -167,7 +183,7 @@ fn ask<S: StableStore, L: Begins, R: Wait + Eprint>(
 }
 
 /// The status with which the node refuses a request; none if it waits.
-fn handed_in<S: StableStore, L: Begins, R: Wait + Eprint>(
+fn handed_in<S: StableStore, L: Begins, R: Wait + Eprint + Clock>(
     shift: &Shift<'_, S, L, R>,
     site: &mut Site,
     seat: &mut Seat<L>,

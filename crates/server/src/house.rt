@@ -2,7 +2,7 @@
 
 use crate::ending::{End, Ending};
 use crate::log::Log;
-use crate::notice::{Notice, VisibleText};
+use crate::notice::{Notice, Reason, VisibleText};
 use crate::pace::Pace;
 use crate::station::{Station, Wake};
 use crate::ticking::{milliseconds, milliseconds_since};
@@ -49,6 +49,8 @@ pub(crate) struct Counters {
     newest: AtomicU64,
     /// How often it was looked whether the server ends, since counts were told.
     looks: AtomicU64,
+    /// How often there was no memory for what was asked for, since that was told.
+    wants: AtomicU64,
     /// Whether it was told that all nodes may be served.
     serves: AtomicBool,
     /// How many parts of the journal were closed, the entries of the last one and of all, and the final states that were told before it.
@@ -66,6 +68,7 @@ impl Counters {
             ended: AtomicU64::new(0),
             newest: AtomicU64::new(0),
             looks: AtomicU64::new(0),
+            wants: AtomicU64::new(0),
             serves: AtomicBool::new(false),
             parts: AtomicU64::new(0),
             entries: AtomicU64::new(0),
@@ -170,7 +173,7 @@ impl House {
     }
 
     /// Tells the operator that the centre serves, once all its nodes may be served for the first time.
-    pub(crate) fn tell_serving<R: Wait + Eprint>(&self, rt: &R) {
+    pub(crate) fn tell_serving<R: Wait + Eprint + Clock>(&self, rt: &R) {
         let may_serve = self
             .stations
             .iter()
@@ -188,7 +191,13 @@ impl House {
     }
 
     /// Tells the operator of a session.
-    pub(crate) fn tell<R: Wait + Eprint>(&self, rt: &R, node: NodeNo, number: u8, notice: Notice) {
+    pub(crate) fn tell<R: Wait + Eprint + Clock>(
+        &self,
+        rt: &R,
+        node: NodeNo,
+        number: u8,
+        notice: Notice,
+    ) {
         let node = node.number();
         self.log
             .line(rt, format_args!("node {node} session {number}: {notice}"));
@@ -276,12 +285,12 @@ impl House {
         }
         thread::sleep(rt, Duration::from_millis(LAST_PAUSE));
         for station in &self.stations {
-            station.site.lock(rt).lose_all(rt);
+            station.site.lock(rt).lose_all(rt, Reason::CentreEnds);
         }
     }
 
     /// Tells the operator of the part of the journal that was closed last, and that the next one goes on at this moment, in milliseconds since 1970.
-    pub(crate) fn tell_part<R: Wait + Eprint>(&self, rt: &R, now: u64) {
+    pub(crate) fn tell_part<R: Wait + Eprint + Clock>(&self, rt: &R, now: u64) {
         let pause = now.saturating_sub(self.pace.stands_since());
         let cut = self.pace.go_on();
         let told = self.fates(rt);
@@ -296,8 +305,24 @@ impl House {
         );
     }
 
+    /// There was no memory for what was asked for.
+    pub(crate) fn want(&self) {
+        let _ = self.counters.wants.fetch_add(1, Ordering::SeqCst);
+    }
+
+    /// Tells the operator how often there was no memory since this was told last, if that was so.
+    pub(crate) fn tell_wants<R: Wait + Eprint + Clock>(&self, rt: &R) {
+        let wants = self.counters.wants.swap(0, Ordering::SeqCst);
+        if wants > 0 {
+            self.log.must_tell(
+                rt,
+                format_args!("memory: {wants} times there was not enough for what was asked for"),
+            );
+        }
+    }
+
     /// Tells the operator what went on so far.
-    pub(crate) fn tell_counts<R: Wait + Eprint>(&self, rt: &R) {
+    pub(crate) fn tell_counts<R: Wait + Eprint + Clock>(&self, rt: &R) {
         let mut sum = Tally::zero();
         let mut sessions = 0usize;
         let mut waiting = 0usize;

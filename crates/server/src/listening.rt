@@ -1,8 +1,8 @@
 //! Where ESMEs connect.
 
-use crate::connection::Connection;
+use crate::connection::{Connection, Wire};
 use crate::house::House;
-use crate::notice::Notice;
+use crate::notice::{Notice, Reason};
 use crate::starting::{Arrival, start_reader, start_writer};
 use crate::station::Station;
 use std::alloc::AllocError;
@@ -36,7 +36,7 @@ pub(crate) fn listen_on<'o, O, R: Threads + Wait + Eprint + Clock + Sync>(
                     && start(rt, outer, house, &arrival).is_err()
                 {
                     // Who serves it sees its end.
-                    arrival.connection.lose(rt);
+                    arrival.connection.lose(rt, Reason::NoThread);
                 }
             }
             Err(_) => thread::sleep(rt, Duration::from_millis(PAUSE)),
@@ -63,7 +63,13 @@ fn admitted<R: Wait + Eprint + Clock>(
     stream: TcpStream,
     address: SocketAddr,
 ) -> Option<Arrival> {
-    let Ok(Some(arrival)) = placed(rt, house, station, stream) else {
+    let wire = Wire {
+        stream,
+        address,
+        idle_seconds: house.own.idle_seconds,
+        write_seconds: house.own.write_seconds,
+    };
+    let Ok(Some(arrival)) = placed(rt, house, station, wire) else {
         let node = station.node.number();
         house.log.line(
             rt,
@@ -75,20 +81,20 @@ fn admitted<R: Wait + Eprint + Clock>(
     Some(arrival)
 }
 
-/// A connection over a stream, at the site of the node, and the number of its session. None if the node has as many as it may.
+/// A connection over a wire, at the site of the node, and the number of its session. None if the node has as many as it may.
 fn placed<R: Wait + Eprint + Clock>(
     rt: &R,
     house: &House,
     station: &Station,
-    stream: TcpStream,
+    wire: Wire,
 ) -> Result<Option<Arrival>, AllocError> {
-    if set_up(house, &stream).is_err() {
+    if set_up(&wire).is_err() {
         return Ok(None);
     }
     let alloc = house.alloc;
     let serial = house.counters.next_connection();
     let begun = house.now(rt).seconds();
-    let connection = Arc::new(alloc, Connection::make(alloc, serial, begun, stream)?)?;
+    let connection = Arc::new(alloc, Connection::make(alloc, serial, begun, wire)?)?;
     let theirs = Arc::try_clone(&connection)?;
     let mut guard = station.site.lock(rt);
     let site = &mut *guard;
@@ -106,12 +112,13 @@ fn most_sessions(limit: u32) -> u8 {
     limit.min(MOST_SESSIONS) as u8
 }
 
-/// Sets how long a read and a write on a stream may take, as the configuration says.
-fn set_up(house: &House, stream: &TcpStream) -> io::Result<()> {
+/// Sets how long a read and a write on a stream may take.
+fn set_up(wire: &Wire) -> io::Result<()> {
+    let stream = &wire.stream;
     stream.set_nonblocking(false)?;
     stream.set_nodelay(true)?;
-    stream.set_write_timeout(limit(house.own.write_seconds))?;
-    stream.set_read_timeout(limit(house.own.idle_seconds))
+    stream.set_write_timeout(limit(wire.write_seconds))?;
+    stream.set_read_timeout(limit(wire.idle_seconds))
 }
 
 /// As much time as a limit of so many seconds leaves, or None for 0: no limit.

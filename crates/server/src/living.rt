@@ -1,6 +1,7 @@
 //! A node of the server, in one life after another.
 
 use crate::ending::Ending;
+use crate::notice::Reason;
 use crate::shared::Shared;
 use crate::shift::{ALL_LOOKS, Shift};
 use crate::starting::{start_attendant, start_packets, start_ticks};
@@ -101,7 +102,7 @@ fn attend_all<
 }
 
 /// What may be granted is delivered as the life begins.
-fn feed_first<S: StableStore, L: Begins, R: Wait + Eprint>(shift: &Shift<'_, S, L, R>) {
+fn feed_first<S: StableStore, L: Begins, R: Wait + Eprint + Clock>(shift: &Shift<'_, S, L, R>) {
     let mut guard = shift.station.site.lock(shift.rt);
     let site = &mut *guard;
     if let Err(trouble) = shift.feed(site, ALL_LOOKS) {
@@ -149,7 +150,11 @@ fn end_sessions<S: StableStore, L: Begins, R: Wait + Eprint + Clock>(shift: &Shi
         }
         thread::sleep(shift.rt, Duration::from_millis(50));
     }
-    shift.station.site.lock(shift.rt).lose_all(shift.rt);
+    shift
+        .station
+        .site
+        .lock(shift.rt)
+        .lose_all(shift.rt, Reason::CentreEnds);
 }
 
 /// Starts a node anew: its next life. None if that is refused: the server ends then, or the part of the journal does.

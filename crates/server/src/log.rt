@@ -1,12 +1,33 @@
 //! The lines that an operator reads.
 
+use crate::ticking::milliseconds;
+use connection_parts::stamp_at;
 use std::alloc::Global;
 use std::collections::VecDeque;
 use std::fmt;
+use std::rt::Clock;
 use std::sync::{Condvar, Mutex, Wait};
 
 /// How many lines wait to be written, before what comes is counted in place of being told.
 const MANY_LINES: usize = 1_000;
+
+/// When a line is told: the moment by ISO 8601, in UTC.
+#[derive(Clone, Copy)]
+pub struct Stamp([u8; 24]);
+
+/// What the clock of the system says now.
+pub fn stamp<R: Clock>(rt: &R) -> Stamp {
+    Stamp(stamp_at(milliseconds(rt)))
+}
+
+impl fmt::Display for Stamp {
+    fn fmt<W: fmt::Write>(&self, f: &mut fmt::Formatter<W>) -> fmt::Result {
+        for octet in &self.0 {
+            f.write_char(char::from(*octet))?;
+        }
+        Ok(())
+    }
+}
 
 /// The lines that an operator reads, on standard error. Who has a line puts it to those that wait, and goes on; a thread writes them. So a standard error
 /// that nobody reads holds up nobody who serves. A quiet one has no lines but those that must be told.
@@ -75,8 +96,8 @@ impl Log {
         }
     }
 
-    /// A line, unless it is quiet. It is counted, and not told, if many wait.
-    pub(crate) fn line<R: Wait, D: fmt::Display + Drop>(&self, rt: &R, line: D) {
+    /// A line of this moment, unless it is quiet. It is counted, and not told, if many wait.
+    pub(crate) fn line<R: Wait + Clock, D: fmt::Display + Drop>(&self, rt: &R, line: D) {
         if self.is_quiet {
             drop(line);
         } else {
@@ -84,14 +105,15 @@ impl Log {
         }
     }
 
-    /// A line that is told even if it is quiet, and if many wait. That it could not be written stops nothing.
-    pub(crate) fn must_tell<R: Wait, D: fmt::Display + Drop>(&self, rt: &R, line: D) {
+    /// A line of this moment that is told even if it is quiet, and if many wait. That it could not be written stops nothing.
+    pub(crate) fn must_tell<R: Wait + Clock, D: fmt::Display + Drop>(&self, rt: &R, line: D) {
         self.put(rt, line, usize::MAX);
     }
 
     /// A line waits to be written, unless so many do.
-    fn put<R: Wait, D: fmt::Display + Drop>(&self, rt: &R, line: D, most: usize) {
-        let text = format!(in self.alloc; "{line}");
+    fn put<R: Wait + Clock, D: fmt::Display + Drop>(&self, rt: &R, line: D, most: usize) {
+        let stamp = stamp(rt);
+        let text = format!(in self.alloc; "{stamp} {line}");
         let mut lines = self.lines.lock(rt);
         match text {
             Ok(text) => lines.put(text, most),
@@ -102,11 +124,14 @@ impl Log {
     }
 
     /// Writes the lines that wait, and waits for more, until none comes any more.
-    pub(crate) fn write_all<R: Wait + Eprint>(&self, rt: &R) {
+    pub(crate) fn write_all<R: Wait + Eprint + Clock>(&self, rt: &R) {
         for _ in rt.forever() {
             let _ = match self.next(rt) {
                 Told::Line(line) => rt.eprintln(line),
-                Told::Lost(count) => rt.eprintln(format_args!("log: {count} lines were not told")),
+                Told::Lost(count) => {
+                    let stamp = stamp(rt);
+                    rt.eprintln(format_args!("{stamp} log: {count} lines were not told"))
+                }
                 Told::End => return,
             };
         }

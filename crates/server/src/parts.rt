@@ -161,9 +161,13 @@ const LOOK: u64 = 10;
 /// After how many looks the operator is told counts: a minute.
 const LOOKS: u64 = 6_000;
 
-/// Waits for the end of the part, or of the server, and tells counts each minute.
+/// After how many looks the operator is told of want of memory: a second.
+const WANT_LOOKS: u32 = 100;
+
+/// Waits for the end of the part, or of the server, and tells counts each minute, and want of memory each second.
 fn watch<S: StableStore, L: Begins, R: Wait + Eprint + Clock>(rt: &R, shared: &Shared<S, L>) {
     let house = &shared.house;
+    let mut looks = 0u32;
     for _ in rt.forever() {
         if house.is_asked() {
             house.end.set(rt, Ending::Asked);
@@ -173,9 +177,14 @@ fn watch<S: StableStore, L: Begins, R: Wait + Eprint + Clock>(rt: &R, shared: &S
             break;
         }
         thread::sleep(rt, Duration::from_millis(LOOK));
+        looks = looks.saturating_add(1) % WANT_LOOKS;
+        if looks == 0 {
+            house.tell_wants(rt);
+        }
         if house.counters.look(LOOKS) {
             house.tell_counts(rt);
         }
     }
+    house.tell_wants(rt);
     house.pace.stand_since(milliseconds(rt));
 }

@@ -22,13 +22,14 @@ fn read_on<R: Wait>(rt: &R, alloc: Global, connection: &Connection) -> Reason {
     let Ok(mut framer) = Framer::make(alloc) else {
         return Reason::NoMemory;
     };
-    let mut reader = CountedReader::make(&connection.stream);
+    let mut reader = CountedReader::make(&connection.wire.stream);
     for _ in rt.forever() {
         if !connection.may_read(rt) {
             break;
         }
         match next(alloc, &mut reader, &mut framer) {
             Ok(frame) => connection.take_in(rt, frame),
+            Err(Reason::Failed) => return connection.read_failure(),
             Err(reason) => return reason,
         }
     }

@@ -1,7 +1,7 @@
 //! What the threads of a node share in one of its lives.
 
 use crate::ending::Ending;
-use crate::notice::Notice;
+use crate::notice::{Notice, Whom};
 use crate::shared::Shared;
 use crate::site::Site;
 use crate::station::Station;
@@ -9,6 +9,7 @@ use crate::trouble::Trouble;
 use mc_types::{MsgId, NodeNo};
 use node_workers::{Begins, Life, Seat};
 use stable_store::StableStore;
+use std::rt::Clock;
 use std::sync::Wait;
 
 /// How many messages are looked at behind a delivery: it frees one place, and a tick looks at all of them.
@@ -26,7 +27,7 @@ pub(crate) struct Shift<'a, S: StableStore, L: Begins, R> {
     pub(crate) life: &'a Life,
 }
 
-impl<S: StableStore, L: Begins, R: Wait + Eprint> Shift<'_, S, L, R> {
+impl<S: StableStore, L: Begins, R: Wait + Eprint + Clock> Shift<'_, S, L, R> {
     /// The node.
     pub(crate) fn node(&self) -> NodeNo {
         self.station.node
@@ -56,15 +57,30 @@ impl<S: StableStore, L: Begins, R: Wait + Eprint> Shift<'_, S, L, R> {
             Trouble::Full if self.shared.house.pace.goes_on() => self.shared.house.rest(),
             Trouble::Full => self.shared.house.end.set(self.rt, Ending::Full),
             Trouble::Store => self.station.anew.fail(),
-            Trouble::Memory | Trouble::Nothing => {}
+            Trouble::Memory => self.shared.house.want(),
+            Trouble::Nothing => {}
         }
     }
 
-    /// Tells the operator of a session.
+    /// Tells the operator of a session, and whose it is.
     pub(crate) fn tell(&self, number: u8, notice: Notice) {
-        self.shared
-            .house
-            .tell(self.rt, self.station.node, number, notice);
+        let whom = self.station.site.lock(self.rt).whom(self.rt, number);
+        self.tell_of(number, notice, whom);
+    }
+
+    /// Tells the operator of a session, and that it is theirs, if there is one.
+    pub(crate) fn tell_of(&self, number: u8, notice: Notice, whom: Option<Whom>) {
+        let house = &self.shared.house;
+        let Some(whom) = whom else {
+            house.tell(self.rt, self.station.node, number, notice);
+            return;
+        };
+        let node = self.station.node.number();
+        house.log.line(
+            self.rt,
+            format_args!("node {node} session {number}: {notice}; {whom}"),
+        );
+        drop(notice);
     }
 
     /// Tells the operator of the node.

@@ -5,6 +5,7 @@ ghost use Rattle.std.specs.Prelude.{◌≡◌};
 use crate::berth::Berth;
 use crate::carriage::Carriage;
 use crate::connection::Connection;
+use crate::notice::{Reason, Whom};
 use crate::starting::Arrival;
 use connection_parts::{Job, Tally};
 use esme_service::{Sending, Service};
@@ -71,6 +72,12 @@ impl Site {
         if let Some(connection) = self.connections.remove(&number) {
             connection.finish(rt);
         }
+    }
+
+    /// Whose session that of a number is, and from where; none if there is none.
+    pub(crate) fn whom<R: Wait>(&self, rt: &R, number: u8) -> Option<Whom> {
+        let connection = self.connections.get(&number)?;
+        Some(connection.whom(rt))
     }
 
     /// The sessions that nobody serves yet in this life of the node; somebody is to, from now on. An `Err` is want of memory.
@@ -140,7 +147,7 @@ impl Site {
             return Ok(());
         }
         let Ok(told) = outputs.copy() else {
-            self.lose_all(rt);
+            self.lose_all(rt, Reason::NoMemory);
             return Err(AllocError);
         };
         let Outputs {
@@ -160,7 +167,7 @@ impl Site {
         if let Some(sending) = self.service.reply(reply)
             && self.send(rt, &sending).is_err()
         {
-            self.lose(rt, sending.number());
+            self.lose(rt, sending.number(), Reason::NoMemory);
         }
     }
 
@@ -426,10 +433,10 @@ impl Site {
         }
     }
 
-    /// All connections are lost.
-    pub(crate) fn lose_all<R: Wait>(&self, rt: &R) {
+    /// All connections are lost, for this reason.
+    pub(crate) fn lose_all<R: Wait>(&self, rt: &R, reason: Reason) {
         for (_, connection) in &self.connections {
-            connection.lose(rt);
+            connection.lose(rt, reason);
         }
     }
 
@@ -438,7 +445,7 @@ impl Site {
         for (number, connection) in &self.connections {
             let is_late = connection.begun.saturating_add(seconds) <= self.clock.seconds();
             if is_late && self.service.account(*number).is_none() {
-                connection.lose(rt);
+                connection.lose(rt, Reason::NotBound);
             }
         }
     }
@@ -481,10 +488,10 @@ impl Site {
         None
     }
 
-    /// The connection of a session is lost, if there is one.
-    fn lose<R: Wait>(&self, rt: &R, number: u8) {
+    /// The connection of a session is lost, for this reason, if there is one.
+    fn lose<R: Wait>(&self, rt: &R, number: u8, reason: Reason) {
         if let Some(connection) = self.connections.get(&number) {
-            connection.lose(rt);
+            connection.lose(rt, reason);
         }
     }
 

@@ -24,7 +24,7 @@ use std::thread::{Scope, Threads};
 // What follows goes on through all parts of the journal.
 
 /// Starts the thread that writes the lines that an operator reads. If it can't be started, the server ends.
-pub(crate) fn start_log<'o, O, R: Threads + Wait + Eprint + Sync>(
+pub(crate) fn start_log<'o, O, R: Threads + Wait + Eprint + Clock + Sync>(
     rt: &'o R,
     outer: &'o Scope<'o, O>,
     house: &'o House,
@@ -74,7 +74,7 @@ pub(crate) fn start_reader<'o, O, R: Threads + Wait + Clock + Sync>(
 }
 
 /// Starts the thread that writes on a connection. An `Err` if none can be started.
-pub(crate) fn start_writer<'o, O, R: Threads + Wait + Sync>(
+pub(crate) fn start_writer<'o, O, R: Threads + Wait + Clock + Sync>(
     rt: &'o R,
     outer: &'o Scope<'o, O>,
     connection: &Arc<Connection>,

@@ -85,7 +85,7 @@ pub(crate) fn tick_first<S: StableStore, L: Begins, R: Wait + Eprint + Clock>(
 }
 
 /// The node may be served, unless its first tick is still to come, or its rounds are waited for in the next part of the journal.
-fn begin<S: StableStore, L: Begins, R: Wait + Eprint>(shift: &Shift<'_, S, L, R>) {
+fn begin<S: StableStore, L: Begins, R: Wait + Eprint + Clock>(shift: &Shift<'_, S, L, R>) {
     if shift.station.has_ticked.load(Ordering::SeqCst)
         && !shift.is_over()
         && !shift.station.has_begun.swap(true, Ordering::SeqCst)
@@ -143,7 +143,7 @@ const PATIENCE: u32 = 30;
 
 /// Has a node start anew that has few message_ids left, once nothing waits there and all packets have come, or after thirty ticks: a receipt whose round runs
 /// then may be lost. It is asked a second behind the rounds of a tick, when the attempts that these began have been made. How many ticks it has waited.
-fn start_anew_if_low<S: StableStore, L: Begins, R: Wait + Eprint>(
+fn start_anew_if_low<S: StableStore, L: Begins, R: Wait + Eprint + Clock>(
     shift: &Shift<'_, S, L, R>,
     ticks: u32,
 ) -> u32 {
@@ -203,7 +203,7 @@ const TOLD_LOOKS: u32 = 250;
 
 /// It was looked so often whether the rounds of a node are through: each five seconds an operator is told how far they are, if it is not served before that.
 /// How often it was looked then.
-fn tell_progress<S: StableStore, L: Begins, R: Wait + Eprint>(
+fn tell_progress<S: StableStore, L: Begins, R: Wait + Eprint + Clock>(
     shift: &Shift<'_, S, L, R>,
     looks: u32,
 ) -> u32 {

@@ -10,10 +10,11 @@ use crate::trouble::Trouble;
 use connection_parts::Job;
 use node_workers::{Begins, Heard, Home, Seat, tried};
 use stable_store::StableStore;
+use std::rt::Clock;
 use std::sync::Wait;
 
 /// Makes the deliveries that are given to this place of a connection, until it is shut, or workers rest.
-pub(crate) fn work<S: StableStore, L: Begins, R: Wait + Eprint>(
+pub(crate) fn work<S: StableStore, L: Begins, R: Wait + Eprint + Clock>(
     shift: &Shift<'_, S, L, R>,
     connection: &Connection,
     place: usize,
@@ -37,7 +38,7 @@ pub(crate) fn work<S: StableStore, L: Begins, R: Wait + Eprint>(
 }
 
 /// Makes a delivery: has its attempt granted, carries it to the ESME, and hands in what came of it. Its place is free then.
-fn deliver<'x, S: StableStore, L: Begins, R: Wait + Eprint>(
+fn deliver<'x, S: StableStore, L: Begins, R: Wait + Eprint + Clock>(
     shift: &Shift<'_, S, L, R>,
     connection: &'x Connection,
     berth: &'x Berth,
@@ -81,7 +82,7 @@ fn heard_in(job: &Job) -> Heard
 }
 
 /// The place of a delivery on its session is free: others may be made.
-fn free<S: StableStore, L: Begins, R: Wait + Eprint>(
+fn free<S: StableStore, L: Begins, R: Wait + Eprint + Clock>(
     shift: &Shift<'_, S, L, R>,
     connection: &Connection,
     job: &Job,
@@ -94,7 +95,7 @@ fn free<S: StableStore, L: Begins, R: Wait + Eprint>(
 }
 
 /// The packets that the last step of a seat sent are handed in to all nodes.
-fn ring_last<S: StableStore, L: Begins, R: Wait + Eprint>(
+fn ring_last<S: StableStore, L: Begins, R: Wait + Eprint + Clock>(
     shift: &Shift<'_, S, L, R>,
     seat: &Seat<L>,
 ) {

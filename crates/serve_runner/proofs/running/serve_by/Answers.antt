@@ -2,7 +2,7 @@ use Rattle.std.proofs.Common.{subst}
 use Rattle.server.specs.Actions.{AllBegin}
 use Rattle.server.specs.Defaults.{Defaults}
 use Rattle.server.specs.Openings.{cluster_of, kept_at}
-use Rattle.serve_runner.proofs.running.serve_file.Goals as goal
+use Rattle.serve_runner.proofs.running.serve_by.Goals as goal
 
 pub serve_over-requires-clause-begin : goal.serve_over-requires-clause-begin
 serve_over-requires-clause-begin g c κs within =
