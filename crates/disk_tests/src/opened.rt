@@ -65,3 +65,19 @@ fn a_path_that_is_not_there_is_told(rt: HostRuntime) {
     let fault = opened.err();
     assert_same(&rt, &fault, &Some(StoreFault::Device));
 }
+
+// A store says which incarnations its records name, and what has begun over it, beside whose it is; new ones name none.
+#[test]
+fn a_store_tells_what_its_records_name(rt: HostRuntime) {
+    let alloc = rt.alloc();
+    let store = NodeStore::open(&rt, alloc, None).expect(&rt, "a store");
+    let (store, new) = store.looked(alloc).expect(&rt, "a look");
+    let setup = set_up(&rt, 1, 1, 259200);
+    let store = walked(&rt, alloc, store, setup, STORED);
+    let (store, used) = store.looked(alloc).expect(&rt, "a look");
+    drop(store);
+    let seen = (new.begun, new.named, new.whose.is_some());
+    assert_same(&rt, &seen, &(0, [0; 9], false));
+    let seen = (used.begun, used.named, used.whose.is_some());
+    assert_same(&rt, &seen, &(1, [1, 0, 0, 0, 0, 0, 0, 0, 0], false));
+}

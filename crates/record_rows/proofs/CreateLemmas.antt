@@ -14,6 +14,7 @@ use Rattle.sqlite.specs.State.{State, mode_of, Executes, CommitsBy}
 use Rattle.sqlite.proofs.Callers.{IsPlain, command_of, statement_of}
 use Rattle.sqlite_tied.specs.Compute.{everything}
 use Rattle.record_rows.proofs.SqlLemmas.{went, same_value}
+use Rattle.record_rows.proofs.BesideLemmas.{none_beside, schema_told}
 use Rattle.record_rows.proofs.WriteLemmas.{IsWrite, Wrote, has_written, may_write}
 use Rattle.record_rows.specs.Added.{SlotsAdded, AddsSlots, HasAddedSlots, LifeAdded, AddsLife, HasAddedLife}
 use Rattle.record_rows.specs.Tables.{life_table, slots_table, schema_in, life_alone, slots_alone, schema_of, life_first, slots_first}
@@ -46,10 +47,10 @@ pub life_made_plain : IsPlain (understood (schema_in slots_alone) life_text)
 unfolding understood everything
 life_made_plain = (refl, refl)
 
-pub slots_created : created (schema_in life_alone) (slots_table 0) ≡ schema_of life_first
+pub slots_created : created (schema_in life_alone) (slots_table 0) ≡ schema_of life_first []
 slots_created = rw (decimal_digit 1 (omega arith))
 
-pub life_created : created (schema_in slots_alone) (life_table 0) ≡ schema_of slots_first
+pub life_created : created (schema_in slots_alone) (life_table 0) ≡ schema_of slots_first []
 life_created = refl
 
 -- a table that is made is empty, and the others keep their rows
@@ -78,7 +79,7 @@ makes = record { runs = λ old new text params count h. h; commit = λ e. cc; re
 module _ (old : State) where
   pub slots_left : (has : old.now.schema ≡ schema_in life_alone) (after : Database)
       → Wrote slots_text [] old (schema_in life_alone) has CreateTable slots_made.0 slots_made_plain makes after
-      → (after.schema ≡ schema_of life_first) × (after.trees 1 ≡ []) × (after.trees 0 ≡ old.now.trees 0)
+      → (after.schema ≡ schema_of life_first []) × (after.trees 1 ≡ []) × (after.trees 0 ≡ old.now.trees 0)
   slots_left has after w =
       let it = made old (schema_in life_alone) (slots_table 0) _ w.tally old.now.trees after slots_made.2 refl (subst (λ t. Does old.step_limit
       (mode_of old) [] (record { schema = schema_in life_alone; trees = old.now.trees }) t None CreateTable (Ok (w.tally, after))) slots_made.1 w.does) in
@@ -90,7 +91,7 @@ module _ (old : State) where
       let left = slots_left has new.now it.0 in
       record {
         adds = record { empty = left.1; life = left.2; sound = subst (λ k. IsDatabase (record { schema = k; trees = new.now.trees })) left.0 it.0.sound };
-        ours = record { is_open = it.1.is_open; schema = left.0; autocommit = it.1.mode ∙ autocommit; committed = sym (rw autocommit at it.1.committed_is) };
+        ours = record { is_open = it.1.is_open; schema = schema_told _ _ [] none_beside left.0; autocommit = it.1.mode ∙ autocommit; committed = sym (rw autocommit at it.1.committed_is) };
       }
 
   pub may_add_slots : (db : Trees) → CommitsBy slots_text [] old db → AddsSlots old db
@@ -109,7 +110,7 @@ module _ (old : State) where
 module _ (old : State) where
   life_left : (has : old.now.schema ≡ schema_in slots_alone) (after : Database)
       → Wrote life_text [] old (schema_in slots_alone) has CreateTable life_made.0 life_made_plain makes after
-      → (after.schema ≡ schema_of slots_first) × (after.trees 2 ≡ []) × (after.trees 0 ≡ old.now.trees 0)
+      → (after.schema ≡ schema_of slots_first []) × (after.trees 2 ≡ []) × (after.trees 0 ≡ old.now.trees 0)
   life_left has after w =
       let it = made old (schema_in slots_alone) (life_table 0) _ w.tally old.now.trees after life_made.2 refl (subst (λ t. Does old.step_limit
       (mode_of old) [] (record { schema = schema_in slots_alone; trees = old.now.trees }) t None CreateTable (Ok (w.tally, after))) life_made.1 w.does) in
@@ -121,7 +122,7 @@ module _ (old : State) where
       let left = life_left has new.now it.0 in
       record {
         adds = record { empty = left.1; slots = left.2; sound = subst (λ k. IsDatabase (record { schema = k; trees = new.now.trees })) left.0 it.0.sound };
-        ours = record { is_open = it.1.is_open; schema = left.0; autocommit = it.1.mode ∙ autocommit; committed = sym (rw autocommit at it.1.committed_is) };
+        ours = record { is_open = it.1.is_open; schema = schema_told _ _ [] none_beside left.0; autocommit = it.1.mode ∙ autocommit; committed = sym (rw autocommit at it.1.committed_is) };
       }
 
   pub may_add_life : (db : Trees) → CommitsBy life_text [] old db → AddsLife old db

@@ -1,3 +1,4 @@
+pub mod Few
 pub mod Texts
 pub mod SlotLemmas
 pub mod SqlLemmas
@@ -6,10 +7,14 @@ pub mod PutLemmas
 pub mod LifeLemmas
 pub mod StateLemmas
 pub mod WriteLemmas
+pub mod BesideLemmas
+pub mod WhoseLemmas
+pub mod WhoseStates
 pub mod PutStates
 pub mod LifeStates
 pub mod ShownLemmas
 pub mod ReadLemmas
+pub mod WhoseReads
 pub mod SlotReads
 pub mod SlotOrder
 pub mod TableLemmas

@@ -11,6 +11,7 @@ use Rattle.sqlite.proofs.Callers.{IsPlain, command_of, statement_of}
 use Rattle.sqlite.proofs.StateLemmas.{survives_then}
 use Rattle.sqlite_tied.specs.Compute.{everything}
 use Rattle.record_rows.proofs.CreateLemmas.{life_text, slots_text, made, makes, slots_made, slots_made_plain, slots_left}
+use Rattle.record_rows.proofs.BesideLemmas.{none_beside, schema_told}
 use Rattle.record_rows.proofs.WriteLemmas.{has_written}
 use Rattle.record_rows.specs.Added.{BothAdded, AreBothAdded}
 use Rattle.record_rows.specs.Tables.{life_table, schema_in, neither, life_alone, schema_of, life_first}
@@ -32,7 +33,7 @@ pub record IsBegun (s : State) : Type 0 where
 
 -- and then both
 pub record AreMade (s : State) : Type 0 where
-  pub schema : s.now.schema ≡ schema_of life_first
+  pub schema : s.now.schema ≡ schema_of life_first []
   pub added : BothAdded s.now.trees
 
 pub life_begun : (old new : State) (count : ℕ) → old.now.schema ≡ schema_in neither → ExecutesInside 0 life_text [] old new (Ok count) → IsBegun new
@@ -61,7 +62,7 @@ both_committed old new made shown = record {
   adds = subst (λ (d : Database). BothAdded d.trees) (sym shown.now_is) made.added;
   ours = record {
     is_open = shown.is_open;
-    schema = ap (λ (d : Database). d.schema) shown.now_is ∙ made.schema;
+    schema = schema_told _ _ [] none_beside (ap (λ (d : Database). d.schema) shown.now_is ∙ made.schema);
     autocommit = shown.mode;
     committed = shown.now_is ∙ sym shown.committed_is;
   };

@@ -11,6 +11,7 @@ use Rattle.sqlite.specs.Listing.{understood}
 use Rattle.sqlite.specs.Clock.{timed}
 use Rattle.sqlite.specs.State.{State, Survives, Shown, ShowsRows, IsUnchanged, CommitsShowing}
 use Rattle.sqlite.specs.Schema.{Schema}
+use Rattle.sqlite.specs.Table.{Table}
 use Rattle.sqlite.proofs.Callers.{IsPlain, reads_as, never_commits, one_permutation}
 use Rattle.record_rows.specs.declared.fault.Fault.{Fault}
 use Rattle.record_rows.specs.declared.fault.Fault.TheVariants.{Shut}
@@ -22,6 +23,7 @@ use Rattle.record_rows.specs.Content.{IsShownLife}
 use Rattle.record_rows.specs.Ours.{IsOurs, HasReadLife, HoldsNoLife, IsStrange}
 use Rattle.record_rows.proofs.Texts.{read_life_text, life_shown, read_life_command}
 use Rattle.record_rows.proofs.Texts.{read_life_is, read_life_plain}
+use Rattle.record_rows.proofs.BesideLemmas.{told_beside}
 use Rattle.record_rows.proofs.QueryLemmas.{on_table, IsShown, shows}
 use Rattle.record_rows.proofs.SlotLemmas.{few-permutation}
 
@@ -35,7 +37,7 @@ shown_unchanged sql params old new schema has plain rows h =
     let none = (subst IsPlain (sym known) plain).0 in
     (subst (ShowsRows old new sql h.0 (timed params h.0.formats h.1.now) rows) none h.2).3
 
-pub strange_survives : (sql : List ℕ) (params : Row) (old new : State) → ((layout : Layout) → IsPlain (understood (schema_of layout) sql))
+pub strange_survives : (sql : List ℕ) (params : Row) (old new : State) → ((layout : Layout) (beside : List Table) → IsPlain (understood (schema_of layout beside) sql))
     → Survives old new (CommitsShowing sql params old) → Survives old new (IsStrange old)
 strange_survives sql params old new plain s = record {
   clean = s.clean;
@@ -45,7 +47,7 @@ strange_survives sql params old new plain s = record {
   closes = s.closes;
   crash = λ clean db left. elim (s.crash clean db left) [
     | inl before ↦ inl before
-    | inr after ↦ inr (λ layout ours. never_commits sql params old db (subst (λ k. IsPlain (understood k sql)) (sym ours.schema) (plain layout)) after)
+    | inr after ↦ inr (λ layout ours. never_commits sql params old db (let it = told_beside layout old.now.schema ours.schema in subst (λ k. IsPlain (understood k sql)) (sym it.2) (plain layout it.0)) after)
   ];
 }
 
@@ -82,8 +84,9 @@ life_to found rows (Some n) same is =
 life_seen : (layout : Layout) (old new : State) (rows : List Row) → IsOurs layout old → Shown read_life_text [] old new rows
     → IsPermutation (map life_row (old.now.trees (life_tree layout))) rows
 life_seen layout old new rows ours h =
-    let read = reads_as read_life_text [] old new (schema_of layout) ours.schema (read_life_command layout) (read_life_is layout).0
-    (read_life_plain layout) (read_life_is layout).1 rows h in
+    let told = told_beside layout old.now.schema ours.schema in
+    let read = reads_as read_life_text [] old new (schema_of layout told.0) told.2 (read_life_command layout)
+    (read_life_is layout told.0).0 (read_life_plain layout told.0) (read_life_is layout told.0).1 rows h in
     let it = shows (life_tree layout) [] life_shown [] old.now.trees [] rows (λ _. true) (λ r. refl) read.answer in
     subst (λ xs. IsPermutation (map life_row xs) rows) (every (old.now.trees (life_tree layout))) (life_rows (life_tree layout) _ rows it)
 

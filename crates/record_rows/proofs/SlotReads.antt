@@ -18,6 +18,7 @@ use Rattle.record_rows.specs.Content.{Slot, Body, Entry, entry_of, values_of, sa
 use Rattle.record_rows.specs.Content.{AreShownAs, is_below, AreAscending, slots_of}
 use Rattle.record_rows.specs.Ours.{IsOurs, HasRead}
 use Rattle.record_rows.proofs.Texts.{read_slots_text, slots_shown, by_slot, read_slots_command, read_slots_is, read_slots_plain}
+use Rattle.record_rows.proofs.BesideLemmas.{told_beside}
 use Rattle.record_rows.proofs.QueryLemmas.{on_table, IsShown, shows, all-permuted}
 use Rattle.record_rows.proofs.SlotLemmas.{slots_are_one, at_columns, few-permutation, length_map}
 use Rattle.record_rows.proofs.ShownLemmas.{below_itself}
@@ -35,8 +36,9 @@ slot_rows tree found rows it = subst (IsPermutation (map slot_row found)) (sym i
 pub slots_shown_by : (layout : Layout) (old new : State) (rows : List Row) → IsOurs layout old → Shown read_slots_text [] old new rows
     → IsShown (on_table (slots_tree layout) [] slots_shown by_slot) [] (old.now.trees (slots_tree layout)) rows
 slots_shown_by layout old new rows ours h =
-    let read = reads_as read_slots_text [] old new (schema_of layout) ours.schema (read_slots_command layout) (read_slots_is layout).0
-    (read_slots_plain layout) (read_slots_is layout).1 rows h in
+    let told = told_beside layout old.now.schema ours.schema in
+    let read = reads_as read_slots_text [] old new (schema_of layout told.0) told.2 (read_slots_command layout)
+    (read_slots_is layout told.0).0 (read_slots_plain layout told.0) (read_slots_is layout told.0).1 rows h in
     subst (λ xs. IsShown (on_table (slots_tree layout) [] slots_shown by_slot) [] xs rows) (every (old.now.trees (slots_tree layout)))
     (shows (slots_tree layout) [] slots_shown by_slot old.now.trees [] rows (λ _. true) (λ r. refl) read.answer)
 

@@ -1,5 +1,5 @@
--- What the statements mean under the schemas of the two tables.
-use Rattle.std.proofs.Common.{◌≡◌, ℕ, pos, List, [], ◌∷◌, ◌++◌, codes, Some, false, refl}
+-- What the statements mean under the schemas of the two tables, whatever stands behind them.
+use Rattle.std.proofs.Common.{◌≡◌, ◌≤◌, ℕ, pos, List, [], ◌∷◌, ◌++◌, codes, length, Some, false, refl}
 use Rattle.sqlite.specs.declared.types.Value.TheVariants.{Null, Int}
 use Rattle.sqlite.specs.Command.{Command}
 use Rattle.sqlite.specs.Command.TheVariants.{Insert, InsertOr, Select, Update}
@@ -7,6 +7,7 @@ use Rattle.sqlite.specs.Source.TheVariants.{Values}
 use Rattle.sqlite.specs.Term.{Term, lit, col, op2}
 use Rattle.sqlite.specs.Query.{Query}
 use Rattle.sqlite.specs.Listing.{understood, reads_listing}
+use Rattle.sqlite.specs.Table.{Table}
 use Rattle.sqlite.specs.Collation.TheVariants.{Binary}
 use Rattle.sqlite_sql.specs.declared.ops.BinaryOp.TheVariants.{Compare}
 use Rattle.sqlite_sql.specs.declared.ops.CompareOp.TheVariants.{Eq}
@@ -17,6 +18,8 @@ use Rattle.sqlite_value.specs.declared.keys.Key.{Key}
 use Rattle.sqlite.proofs.Callers.{IsPlain, command_of}
 use Rattle.sqlite_tied.specs.Compute.{everything}
 use Rattle.record_rows.proofs.QueryLemmas.{on_table}
+use Rattle.record_rows.proofs.Few.{of_few}
+use Rattle.record_rows.specs.Beside.{most_beside}
 use Rattle.record_rows.specs.Tables.{Layout, life_first, slots_first, life_tree, slots_tree, schema_of}
 
 abbrev pub put_text : List ℕ
@@ -52,15 +55,26 @@ clause tree = record { target = Some (1 ∷ 2 ∷ []); update = Some (record { l
 abbrev pub put_command : Layout → Command
 put_command layout = InsertOr (slots_at layout) Abort (Values put_terms 6) (clause (slots_tree layout) ∷ [])
 
-pub put_is : (layout : Layout) → command_of (understood (schema_of layout) put_text) ≡ put_command layout
-unfolding understood everything
-put_is life_first = refl
-put_is slots_first = refl
+-- the row that is not inserted is read as a table behind all others, so their number has to be known
+abbrev MeansPut : Layout → List Table → Type 0
+MeansPut layout beside = command_of (understood (schema_of layout beside) put_text) ≡ put_command layout
 
-pub put_plain : (layout : Layout) → IsPlain (understood (schema_of layout) put_text)
+abbrev IsPutPlain : Layout → List Table → Type 0
+IsPutPlain layout beside = IsPlain (understood (schema_of layout beside) put_text)
+
+pub put_is : (layout : Layout) (beside : List Table) → length beside ≤ most_beside → MeansPut layout beside
 unfolding understood everything
-put_plain life_first = (refl, refl)
-put_plain slots_first = (refl, refl)
+put_is life_first = of_few (MeansPut life_first) refl (λ a. refl) (λ a b. refl) (λ a b c. refl) (λ a b c d. refl)
+    (λ a b c d e. refl) (λ a b c d e f. refl) (λ a b c d e f g. refl) (λ a b c d e f g h. refl)
+put_is slots_first = of_few (MeansPut slots_first) refl (λ a. refl) (λ a b. refl) (λ a b c. refl) (λ a b c d. refl)
+    (λ a b c d e. refl) (λ a b c d e f. refl) (λ a b c d e f g. refl) (λ a b c d e f g h. refl)
+
+pub put_plain : (layout : Layout) (beside : List Table) → length beside ≤ most_beside → IsPutPlain layout beside
+unfolding understood everything
+put_plain life_first = of_few (IsPutPlain life_first) (refl, refl) (λ a. (refl, refl)) (λ a b. (refl, refl)) (λ a b c. (refl, refl)) (λ a b c d. (refl, refl))
+    (λ a b c d e. (refl, refl)) (λ a b c d e f. (refl, refl)) (λ a b c d e f g. (refl, refl)) (λ a b c d e f g h. (refl, refl))
+put_plain slots_first = of_few (IsPutPlain slots_first) (refl, refl) (λ a. (refl, refl)) (λ a b. (refl, refl)) (λ a b c. (refl, refl)) (λ a b c d. (refl, refl))
+    (λ a b c d e. (refl, refl)) (λ a b c d e f. (refl, refl)) (λ a b c d e f g. (refl, refl)) (λ a b c d e f g h. (refl, refl))
 
 -- ---- the incarnation
 
@@ -82,25 +96,25 @@ next_shown = col 1 0 ∷ col 1 0 ∷ lit Null ∷ col 0 0 ∷ []
 abbrev pub next_command : Layout → Command
 next_command layout = Update (life_at layout) (record { lets = []; body = on_table (life_tree layout) [] next_shown [] })
 
-pub first_is : (layout : Layout) → command_of (understood (schema_of layout) first_text) ≡ first_command layout
+pub first_is : (layout : Layout) (beside : List Table) → command_of (understood (schema_of layout beside) first_text) ≡ first_command layout
 unfolding understood everything
-first_is life_first = refl
-first_is slots_first = refl
+first_is life_first beside = refl
+first_is slots_first beside = refl
 
-pub first_plain : (layout : Layout) → IsPlain (understood (schema_of layout) first_text)
+pub first_plain : (layout : Layout) (beside : List Table) → IsPlain (understood (schema_of layout beside) first_text)
 unfolding understood everything
-first_plain life_first = (refl, refl)
-first_plain slots_first = (refl, refl)
+first_plain life_first beside = (refl, refl)
+first_plain slots_first beside = (refl, refl)
 
-pub next_is : (layout : Layout) → command_of (understood (schema_of layout) next_text) ≡ next_command layout
+pub next_is : (layout : Layout) (beside : List Table) → command_of (understood (schema_of layout beside) next_text) ≡ next_command layout
 unfolding understood everything
-next_is life_first = refl
-next_is slots_first = refl
+next_is life_first beside = refl
+next_is slots_first beside = refl
 
-pub next_plain : (layout : Layout) → IsPlain (understood (schema_of layout) next_text)
+pub next_plain : (layout : Layout) (beside : List Table) → IsPlain (understood (schema_of layout beside) next_text)
 unfolding understood everything
-next_plain life_first = (refl, refl)
-next_plain slots_first = (refl, refl)
+next_plain life_first beside = (refl, refl)
+next_plain slots_first beside = (refl, refl)
 
 -- ---- reading
 
@@ -127,24 +141,24 @@ read_slots_command layout =
     Select (record { lets = []; body = on_table (slots_tree layout) [] slots_shown by_slot })
     (codes "rowid" ∷ codes "id" ∷ codes "place" ∷ codes "promised" ∷ codes "voted" ∷ codes "chain" ∷ [])
 
-pub read_life_is : (layout : Layout) → (command_of (understood (schema_of layout) read_life_text) ≡ read_life_command layout)
-    × (reads_listing (schema_of layout) read_life_text ≡ false)
+pub read_life_is : (layout : Layout) (beside : List Table) → (command_of (understood (schema_of layout beside) read_life_text) ≡ read_life_command layout)
+    × (reads_listing (schema_of layout beside) read_life_text ≡ false)
 unfolding understood everything
-read_life_is life_first = (refl, refl)
-read_life_is slots_first = (refl, refl)
+read_life_is life_first beside = (refl, refl)
+read_life_is slots_first beside = (refl, refl)
 
-pub read_life_plain : (layout : Layout) → IsPlain (understood (schema_of layout) read_life_text)
+pub read_life_plain : (layout : Layout) (beside : List Table) → IsPlain (understood (schema_of layout beside) read_life_text)
 unfolding understood everything
-read_life_plain life_first = (refl, refl)
-read_life_plain slots_first = (refl, refl)
+read_life_plain life_first beside = (refl, refl)
+read_life_plain slots_first beside = (refl, refl)
 
-pub read_slots_is : (layout : Layout) → (command_of (understood (schema_of layout) read_slots_text) ≡ read_slots_command layout)
-    × (reads_listing (schema_of layout) read_slots_text ≡ false)
+pub read_slots_is : (layout : Layout) (beside : List Table) → (command_of (understood (schema_of layout beside) read_slots_text) ≡ read_slots_command layout)
+    × (reads_listing (schema_of layout beside) read_slots_text ≡ false)
 unfolding understood everything
-read_slots_is life_first = (refl, refl)
-read_slots_is slots_first = (refl, refl)
+read_slots_is life_first beside = (refl, refl)
+read_slots_is slots_first beside = (refl, refl)
 
-pub read_slots_plain : (layout : Layout) → IsPlain (understood (schema_of layout) read_slots_text)
+pub read_slots_plain : (layout : Layout) (beside : List Table) → IsPlain (understood (schema_of layout beside) read_slots_text)
 unfolding understood everything
-read_slots_plain life_first = (refl, refl)
-read_slots_plain slots_first = (refl, refl)
+read_slots_plain life_first beside = (refl, refl)
+read_slots_plain slots_first beside = (refl, refl)

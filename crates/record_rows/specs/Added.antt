@@ -10,7 +10,7 @@ use Rattle.record_rows.specs.Ours.{IsOurs}
 pub record SlotsAdded (old : State) (db : Trees) : Type 0 where
   pub empty : db (slots_tree life_first) ≡ []
   pub life : db (life_tree life_first) ≡ old.now.trees (life_tree life_first)
-  pub sound : IsDatabase (record { schema = schema_of life_first; trees = db })
+  pub sound : IsDatabase (record { schema = schema_of life_first []; trees = db })
 
 abbrev pub AddsSlots : State → Trees → Type 0
 AddsSlots old db = old.now.schema ≡ schema_in life_alone → SlotsAdded old db
@@ -26,7 +26,7 @@ HasAddedSlots old new = old.now.schema ≡ schema_in life_alone → old.in_trans
 pub record LifeAdded (old : State) (db : Trees) : Type 0 where
   pub empty : db (life_tree slots_first) ≡ []
   pub slots : db (slots_tree slots_first) ≡ old.now.trees (slots_tree slots_first)
-  pub sound : IsDatabase (record { schema = schema_of slots_first; trees = db })
+  pub sound : IsDatabase (record { schema = schema_of slots_first []; trees = db })
 
 abbrev pub AddsLife : State → Trees → Type 0
 AddsLife old db = old.now.schema ≡ schema_in slots_alone → LifeAdded old db
@@ -42,7 +42,7 @@ HasAddedLife old new = old.now.schema ≡ schema_in slots_alone → old.in_trans
 pub record BothAdded (db : Trees) : Type 0 where
   pub slots : db (slots_tree life_first) ≡ []
   pub life : db (life_tree life_first) ≡ []
-  pub sound : IsDatabase (record { schema = schema_of life_first; trees = db })
+  pub sound : IsDatabase (record { schema = schema_of life_first []; trees = db })
 
 abbrev pub AddsBoth : State → Trees → Type 0
 AddsBoth old db = old.now.schema ≡ schema_in neither → BothAdded db

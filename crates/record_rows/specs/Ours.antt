@@ -1,10 +1,12 @@
--- A connection with the two tables, and what a call leaves of it (own).
+-- A connection with the two tables, with others beside them or without, and what a call leaves of it (own).
 use Rattle.std.specs.Prelude.{◌≡◌, ℤ, false, List, Option, Some, IsTrue}
+use Rattle.sqlite.specs.Change.{KeepsRows}
 use Rattle.sqlite.specs.Tree.{Trees}
 use Rattle.sqlite.specs.Effect.{IsDatabase}
 use Rattle.sqlite.specs.State.{State}
 use Rattle.record_rows.specs.declared.row.SlotRow.{SlotRow}
-use Rattle.record_rows.specs.Tables.{Layout, schema_of, life_tree, slots_tree}
+use Rattle.record_rows.specs.Beside.{IsSchemaOf, beside_in}
+use Rattle.record_rows.specs.Tables.{Layout, life_tree, slots_tree}
 use Rattle.record_rows.specs.Content.{Slots, Entry, with_row, AreSlots, AreLife, slots_of}
 
 -- no transaction is open, so what is seen was committed
@@ -12,10 +14,10 @@ pub record IsSettled (s : State) : Type 0 where
   pub autocommit : s.in_transaction ≡ false
   pub committed : IsTrue s.is_open → s.now ≡ s.committed
 
--- the connection is open, and its database is the two tables
+-- the connection is open, and its database is the two tables, and such as may stand beside them
 pub record IsOurs (layout : Layout) (s : State) : Type 0 where
   pub is_open : IsTrue s.is_open
-  pub schema : s.now.schema ≡ schema_of layout
+  pub schema : IsSchemaOf layout s.now.schema
   pub autocommit : s.in_transaction ≡ false
   pub committed : s.now ≡ s.committed
 
@@ -34,25 +36,29 @@ pub record Stands (old new : State) : Type 0 where
   pub committed : new.committed ≡ old.committed
   pub autocommit : new.in_transaction ≡ false
 
--- these trees hold what was there with the row put in
+-- these trees hold what was there with the row put in, and the tables beside keep their rows
 pub record PutsRow (row : SlotRow) (old : State) (db : Trees) : Type 0 where
   pub slots : (layout : Layout) (slots : Slots) → IsOurs layout old → AreSlots (old.now.trees (slots_tree layout)) slots
       → AreSlots (db (slots_tree layout)) (with_row row slots)
   pub life : (layout : Layout) → IsOurs layout old → db (life_tree layout) ≡ old.now.trees (life_tree layout)
-  pub sound : (layout : Layout) → IsOurs layout old → IsDatabase (record { schema = schema_of layout; trees = db })
+  pub beside : (layout : Layout) → IsOurs layout old → KeepsRows (beside_in old.now.schema) old.now.trees db
+  pub sound : (layout : Layout) → IsOurs layout old → IsDatabase (record { schema = old.now.schema; trees = db })
 
 pub record HasPut (row : SlotRow) (old new : State) : Type 0 where
   pub puts : PutsRow row old new.now.trees
+  pub schema : (layout : Layout) → IsOurs layout old → new.now.schema ≡ old.now.schema
   pub ours : (layout : Layout) → IsOurs layout old → IsOurs layout new
 
--- these trees hold this last incarnation in place of the one that was there, and the slots as they were
+-- these trees hold this last incarnation in place of the one that was there, and the slots and the tables beside as they were
 pub record PutsLife (last : Option ℤ) (next : ℤ) (old : State) (db : Trees) : Type 0 where
   pub life : (layout : Layout) → IsOurs layout old → AreLife (old.now.trees (life_tree layout)) last → AreLife (db (life_tree layout)) (Some next)
   pub slots : (layout : Layout) → IsOurs layout old → db (slots_tree layout) ≡ old.now.trees (slots_tree layout)
-  pub sound : (layout : Layout) → IsOurs layout old → IsDatabase (record { schema = schema_of layout; trees = db })
+  pub beside : (layout : Layout) → IsOurs layout old → KeepsRows (beside_in old.now.schema) old.now.trees db
+  pub sound : (layout : Layout) → IsOurs layout old → IsDatabase (record { schema = old.now.schema; trees = db })
 
 pub record HasPutLife (last : Option ℤ) (next : ℤ) (old new : State) : Type 0 where
   pub puts : PutsLife last next old new.now.trees
+  pub schema : (layout : Layout) → IsOurs layout old → new.now.schema ≡ old.now.schema
   pub ours : (layout : Layout) → IsOurs layout old → IsOurs layout new
 
 -- the rows that were read are those that the connection holds

@@ -1,4 +1,5 @@
--- The two tables as schemas (own). A table that was absent is made after the one that is there, so they stand in either order.
+-- The two tables as schemas, and those that may stand beside them (own). A table that was absent is made after the one that is there, so the two stand in either
+-- order, and the others behind them.
 use Rattle.std.specs.Prelude.{ℕ, pos, true, false, Bool, List, [], ◌∷◌, codes, None, Some}
 use Rattle.sqlite.specs.declared.types.Value.TheVariants.{Null, Int}
 use Rattle.sqlite.specs.Collation.TheVariants.{Binary}
@@ -70,19 +71,20 @@ abbrev pub slots_tree : Layout → ℕ
 slots_tree life_first = 1
 slots_tree slots_first = 0
 
-abbrev pub schema_of : Layout → Schema
-schema_of life_first = record { tables = life_table 0 ∷ slots_table 1 ∷ []; indexes = slots_index 1 2 ∷ []; views = [] }
-schema_of slots_first = record { tables = slots_table 0 ∷ life_table 2 ∷ []; indexes = slots_index 0 1 ∷ []; views = [] }
+-- the two tables, and these behind them
+abbrev pub schema_of : Layout → List Table → Schema
+schema_of life_first beside = record { tables = life_table 0 ∷ slots_table 1 ∷ beside; indexes = slots_index 1 2 ∷ []; views = [] }
+schema_of slots_first beside = record { tables = slots_table 0 ∷ life_table 2 ∷ beside; indexes = slots_index 0 1 ∷ []; views = [] }
 
 -- which of the tables are there
 pub data Present : Type 0 where
   neither : Present
   life_alone : Present
   slots_alone : Present
-  both : Layout → Present
+  both : Layout → List Table → Present
 
 abbrev pub schema_in : Present → Schema
 schema_in neither = record { tables = []; indexes = []; views = [] }
 schema_in life_alone = record { tables = life_table 0 ∷ []; indexes = []; views = [] }
 schema_in slots_alone = record { tables = slots_table 0 ∷ []; indexes = slots_index 0 1 ∷ []; views = [] }
-schema_in (both layout) = schema_of layout
+schema_in (both layout beside) = schema_of layout beside

@@ -2,6 +2,7 @@
 #![tactic(auto)]
 
 mod adding;
+mod beside;
 mod fault;
 mod life;
 mod making;
@@ -9,6 +10,7 @@ mod probe;
 mod row;
 mod slots;
 mod tables;
+mod whose;
 
 pub use adding::{add_life, add_slots};
 pub use fault::{Fault, ReadFault};
@@ -17,3 +19,4 @@ pub use making::make_tables;
 pub use row::SlotRow;
 pub use slots::{put_slot, read_slots};
 pub use tables::{Found, find_tables};
+pub use whose::{WhoseRow, add_beside, has_whose, put_whose, read_whose};

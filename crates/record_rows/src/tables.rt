@@ -6,6 +6,7 @@ ghost use Rattle.record_rows.specs.Tables.{column_of, is_one, life_table, slots_
 ghost use Rattle.record_rows.specs.Found.{IsFound, IsFoundIn, IsPlainTable};
 ghost use Rattle.sqlite_value.specs.Keys.{plain};
 
+use crate::beside::are_beside;
 use sqlite::{Alter, Connection};
 use sqlite_items::Items;
 use sqlite_schema::code::Terms;
@@ -23,15 +24,15 @@ pub enum Found {
     Neither,
     LifeAlone,
     SlotsAlone,
-    /// It has both, and `life` was made first.
+    /// It has both, and `life` was made first; behind them it may have others that may stand beside them.
     LifeFirst,
-    /// It has both, and `slots` was made first.
+    /// The same, and `slots` was made first.
     SlotsFirst,
     /// It has another object, or a table of another form.
     Foreign,
 }
 
-fn is_column(column: &Column, name: &[u8], kind: Kind, not_null: bool) -> bool
+pub(crate) fn is_column(column: &Column, name: &[u8], kind: Kind, not_null: bool) -> bool
     ensures { IsTrue result → column.now ≡ column_of name.now kind not_null }
 {
     column.name.as_slice() == name
@@ -73,14 +74,14 @@ fn are_slots_columns(columns: &[Column]) -> bool
     is_column(chain, b"chain", Kind::Any, true)
 }
 
-fn are_none(alloc: Global, terms: &Terms) -> Result<bool, AllocError>
+pub(crate) fn are_none(alloc: Global, terms: &Terms) -> Result<bool, AllocError>
     ensures { IfOk result (λ none. IsTrue none → terms.now ≡ []) }
 {
     let lent = terms.lend(alloc)?;
     Ok(lent.roots.is_empty())
 }
 
-fn is_check_of_one(alloc: Global, terms: &Terms) -> Result<bool, AllocError>
+pub(crate) fn is_check_of_one(alloc: Global, terms: &Terms) -> Result<bool, AllocError>
     ensures { IfOk result (λ same. IsTrue same → terms.now ≡ is_one ∷ []) }
 {
     let lent = terms.lend(alloc)?;
@@ -94,7 +95,7 @@ fn is_check_of_one(alloc: Global, terms: &Terms) -> Result<bool, AllocError>
     })
 }
 
-fn are_plain(alloc: Global, table: &Table) -> Result<bool, AllocError>
+pub(crate) fn are_plain(alloc: Global, table: &Table) -> Result<bool, AllocError>
     ensures { IfOk result (λ plain. IsTrue plain → IsPlainTable table.now) }
 {
     let stamps = are_none(alloc, &table.stamps.terms)?;
@@ -115,7 +116,8 @@ fn is_named(table: &Table, name: &[u8], tree: u32) -> bool
     table.name.as_slice() == name && table.tree == tree
 }
 
-fn has_life_keys(table: &Table) -> bool
+/// Whether the rows stand under the integer in the first column, and there is no other key.
+pub(crate) fn has_first_key(table: &Table) -> bool
     ensures key { IsTrue result → table.now.key ≡ Some 0 }
     ensures primary { IsTrue result → table.now.primary ≡ 0 ∷ [] }
     ensures uniques { IsTrue result → table.now.uniques ≡ [] }
@@ -146,7 +148,7 @@ fn is_life(alloc: Global, table: &Table, tree: u32) -> Result<bool, AllocError>
     if !is_named(table, b"life", tree) {
         return Ok(false);
     }
-    if !has_life_keys(table) {
+    if !has_first_key(table) {
         return Ok(false);
     }
     Ok(are_life_columns(table.columns.as_slice()))
@@ -241,8 +243,13 @@ fn life_alone(alloc: Global, table: &Table) -> Result<Found, AllocError>
     }
 }
 
-fn life_first(alloc: Global, first: &Table, second: &Table) -> Result<Found, AllocError>
-    ensures { IfOk result (λ found. IsFound found (first.now ∷ second.now ∷ []) (slots_index 1 2 ∷ [])) }
+fn life_first(
+    alloc: Global,
+    first: &Table,
+    second: &Table,
+    beside: &[Table],
+) -> Result<Found, AllocError>
+    ensures { IfOk result (λ found. IsFound found (first.now ∷ second.now ∷ beside.now) (slots_index 1 2 ∷ [])) }
 {
     if !is_life(alloc, first, 0)? {
         return Ok(Found::Foreign);
@@ -250,7 +257,30 @@ fn life_first(alloc: Global, first: &Table, second: &Table) -> Result<Found, All
     if !is_slots(alloc, second, 1)? {
         return Ok(Found::Foreign);
     }
+    if !are_beside(alloc, beside)? {
+        return Ok(Found::Foreign);
+    }
     Ok(Found::LifeFirst)
+}
+
+fn slots_first(
+    alloc: Global,
+    first: &Table,
+    second: &Table,
+    beside: &[Table],
+) -> Result<Found, AllocError>
+    ensures { IfOk result (λ found. IsFound found (first.now ∷ second.now ∷ beside.now) (slots_index 0 1 ∷ [])) }
+{
+    if !is_slots(alloc, first, 0)? {
+        return Ok(Found::Foreign);
+    }
+    if !is_life(alloc, second, 2)? {
+        return Ok(Found::Foreign);
+    }
+    if !are_beside(alloc, beside)? {
+        return Ok(Found::Foreign);
+    }
+    Ok(Found::SlotsFirst)
 }
 
 fn alone(alloc: Global, table: &Table, indexes: &[Index]) -> Result<Found, AllocError>
@@ -272,23 +302,18 @@ fn together(
     alloc: Global,
     first: &Table,
     second: &Table,
+    beside: &[Table],
     indexes: &[Index],
 ) -> Result<Found, AllocError>
-    ensures { IfOk result (λ found. IsFound found (first.now ∷ second.now ∷ []) indexes.now) }
+    ensures { IfOk result (λ found. IsFound found (first.now ∷ second.now ∷ beside.now) indexes.now) }
 {
     if are_slots_indexes(indexes, 1, 2) {
-        return life_first(alloc, first, second);
+        return life_first(alloc, first, second, beside);
     }
     if !are_slots_indexes(indexes, 0, 1) {
         return Ok(Found::Foreign);
     }
-    if !is_slots(alloc, first, 0)? {
-        return Ok(Found::Foreign);
-    }
-    if !is_life(alloc, second, 2)? {
-        return Ok(Found::Foreign);
-    }
-    Ok(Found::SlotsFirst)
+    slots_first(alloc, first, second, beside)
 }
 
 /// Which of the two tables the schema has.
@@ -302,7 +327,7 @@ fn tables_in(alloc: Global, schema: &Schema) -> Result<Found, AllocError>
     match schema.tables.as_slice() {
         [] if indexes.is_empty() => Ok(Found::Neither),
         [table] => alone(alloc, table, indexes),
-        [first, second] => together(alloc, first, second, indexes),
+        [first, second, beside @ ..] => together(alloc, first, second, beside, indexes),
         _ => Ok(Found::Foreign),
     }
 }

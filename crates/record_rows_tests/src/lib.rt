@@ -9,3 +9,5 @@ mod same;
 mod tables;
 #[cfg(test)]
 mod values;
+#[cfg(test)]
+mod whose;

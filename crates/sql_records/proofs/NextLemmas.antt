@@ -6,6 +6,7 @@ use Rattle.sqlite.specs.Tree.{Trees}
 use Rattle.sqlite.specs.Effect.{Database}
 use Rattle.sqlite.specs.State.{State, HasCleanDisk, Survives}
 use Rattle.sqlite.proofs.StateLemmas.{survives_then}
+use Rattle.record_rows.specs.Beside.{IsSchemaOf}
 use Rattle.record_rows.specs.Content.{AreLife}
 use Rattle.record_rows.specs.Ours.{HasPutLife, HasReadLife, IsOurs, IsStrange, PutsLife, Stands}
 use Rattle.record_rows.specs.Tables.{Layout, life_tree, slots_tree}
@@ -15,7 +16,7 @@ use Rattle.sql_records.specs.Stores.{IsLast, IsStarted}
 pub ours_then : (layout : Layout) (old new : State) → IsOurs layout old → Stands old new → IsOurs layout new
 ours_then layout old new ours stands = record {
   is_open = stands.is_open;
-  schema = ap (λ (d : Database). d.schema) stands.now ∙ ours.schema;
+  schema = subst (IsSchemaOf layout) (sym (ap (λ (d : Database). d.schema) stands.now)) ours.schema;
   autocommit = stands.autocommit;
   committed = stands.now ∙ ours.committed ∙ sym stands.committed;
 }

@@ -1,8 +1,9 @@
 -- What making the tables that a database lacks leaves.
-use Rattle.std.proofs.Common.{◌≡◌, ℕ, ◌+◌, ◌*◌, ◌==◌, cond, List, [], ◌∷◌, length, None, refl, sym, ap, subst, ◌∙◌}
+use Rattle.std.proofs.Common.{◌≡◌, ℕ, ◌==◌, cond, List, [], ◌∷◌, None, refl, sym, ap, subst, ◌∙◌}
 use Rattle.mc_model.specs.synod.Acceptor.{Records}
 use Rattle.sqlite.specs.Tree.{Trees}
 use Rattle.sqlite.specs.Schema.{Schema}
+use Rattle.sqlite.specs.Table.{Table}
 use Rattle.sqlite.specs.State.{State}
 use Rattle.sqlite_schema.specs.declared.schema.Index.{Index}
 use Rattle.record_rows.specs.Added.{AddsBoth, AddsSlots, BothAdded, SlotsAdded}
@@ -19,21 +20,31 @@ abbrev first_tree : List Index → ℕ
 first_tree [] = 0
 first_tree (index ∷ more) = index.tree
 
-abbrev coded : Schema → ℕ
-coded s = 4 * length s.tables + 2 * length s.indexes + first_tree s.indexes
+-- by the tree of the first index two tables stand in the one order or in the other
+abbrev ordered : List Index → Layout
+ordered indexes = cond (first_tree indexes == 2) life_first slots_first
 
-abbrev decoded : ℕ → Present
-decoded n = cond (n == 0) neither (cond (n == 4) life_alone (cond (n == 7) slots_alone (cond (n == 12) (both life_first) (both slots_first))))
+abbrev alone : List Index → Present
+alone [] = life_alone
+alone (index ∷ more) = slots_alone
 
-present_by : (present : Present) → decoded (coded (schema_in present)) ≡ present
+abbrev decoded : List Table → List Index → Present
+decoded [] indexes = neither
+decoded (table ∷ []) indexes = alone indexes
+decoded (first ∷ second ∷ beside) indexes = both (ordered indexes) beside
+
+abbrev present_in : Schema → Present
+present_in s = decoded s.tables s.indexes
+
+present_by : (present : Present) → present_in (schema_in present) ≡ present
 present_by neither = refl
 present_by life_alone = refl
 present_by slots_alone = refl
-present_by (both life_first) = refl
-present_by (both slots_first) = refl
+present_by (both life_first beside) = refl
+present_by (both slots_first beside) = refl
 
 pub present_is : (one other : Present) → schema_in one ≡ schema_in other → one ≡ other
-present_is one other same = sym (present_by one) ∙ ap (λ (s : Schema). decoded (coded s)) same ∙ present_by other
+present_is one other same = sym (present_by one) ∙ ap present_in same ∙ present_by other
 
 pub adds_at : (present : Present) (old : State) (db : Trees) → old.now.schema ≡ schema_in present → Completes present old.now.trees db → Adds old db
 adds_at present old db is completes other also =

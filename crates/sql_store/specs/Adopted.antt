@@ -1,8 +1,10 @@
 -- What a database holds whose tables may be absent, and what making those leaves (own).
-use Rattle.std.specs.Prelude.{◌≡◌, ℕ}
+use Rattle.std.specs.Prelude.{◌≡◌, ℕ, List, []}
 use Rattle.mc_model.specs.synod.Acceptor.{Records, blank}
 use Rattle.sqlite.specs.Tree.{Trees}
 use Rattle.sqlite.specs.State.{State}
+use Rattle.sqlite.specs.Table.{Table}
+use Rattle.record_rows.specs.Beside.{AreBeside}
 use Rattle.record_rows.specs.Ours.{IsOurs}
 use Rattle.record_rows.specs.Tables.{Layout, Present, life_first, slots_first, neither, life_alone, slots_alone, both, schema_in}
 use Rattle.stable_store.specs.Stored.{AreSame}
@@ -16,20 +18,32 @@ abbrev pub FoundRecords : Present → Trees → Records → Type 0
 FoundRecords neither db records = AreSame records no_records
 FoundRecords life_alone db records = AreSame records no_records
 FoundRecords slots_alone db records = HasRecords slots_first db records
-FoundRecords (both layout) db records = HasRecords layout db records
+FoundRecords (both layout beside) db records = HasRecords layout db records
 
 abbrev pub FoundStarted : Present → Trees → ℕ → Type 0
 FoundStarted neither db started = started ≡ 0
 FoundStarted life_alone db started = IsStarted life_first db started
 FoundStarted slots_alone db started = started ≡ 0
-FoundStarted (both layout) db started = IsStarted layout db started
+FoundStarted (both layout beside) db started = IsStarted layout db started
 
 -- in which order the tables stand once the absent ones are made
 abbrev pub layout_in : Present → Layout
 layout_in neither = life_first
 layout_in life_alone = life_first
 layout_in slots_alone = slots_first
-layout_in (both layout) = layout
+layout_in (both layout beside) = layout
+
+-- which tables stand beside the two
+abbrev pub those_beside : Present → List Table
+those_beside neither = []
+those_beside life_alone = []
+those_beside slots_alone = []
+those_beside (both layout beside) = beside
+
+-- the database has these of the two tables, and beside them none but such as may stand there
+pub record IsPresent (present : Present) (s : State) : Type 0 where
+  pub schema : s.now.schema ≡ schema_in present
+  pub beside : AreBeside (those_beside present)
 
 -- these trees hold what those did, in both tables
 pub record Completes (present : Present) (old db : Trees) : Type 0 where

@@ -5,10 +5,10 @@ ghost use Rattle.sqlite.specs.State.{HasCleanDisk, IsNotRun, IsUnchanged, Surviv
 ghost use Rattle.sqlite.specs.Held.{state};
 ghost use Rattle.record_rows.specs.Found.{IsFoundIn};
 ghost use Rattle.record_rows.specs.Ours.{IsSettled, Stands};
-ghost use Rattle.record_rows.specs.Tables.{Present, schema_in};
+ghost use Rattle.record_rows.specs.Tables.{Present};
 ghost use Rattle.record_rows.specs.declared.fault.Fault.TheVariants.{Memory};
 ghost use Rattle.stable_store.specs.declared.fault.StoreFault.TheVariants as stored;
-ghost use Rattle.sql_store.specs.Adopted.{Adds, IsFilled};
+ghost use Rattle.sql_store.specs.Adopted.{Adds, IsFilled, IsPresent};
 ghost use Rattle.sql_store.specs.Orders.{layout_of};
 
 use crate::order::Order;
@@ -61,7 +61,7 @@ fn fill<S: Alter>(conn: &mut Connection<S>, found: Found) -> Result<Order, Fault
     requires { IsFoundIn (state S.Store conn.old).now.schema found }
     ensures ok { HasCleanDisk (state S.Store conn.new) → IfOk result (λ order. IsTrue (state S.Store conn.old).is_open → IsSettled (state S.Store conn.old)
         → IsFilled (layout_of order) (state S.Store conn.old) (state S.Store conn.new)) }
-    ensures known { IfOk result (λ _. (present : Present) × ((state S.Store conn.old).now.schema ≡ schema_in present)) }
+    ensures known { IfOk result (λ _. (present : Present) × IsPresent present (state S.Store conn.old)) }
     ensures kept { HasCleanDisk (state S.Store conn.new) → IfErr result (λ fault. fault ≡ Memory → IsSettled (state S.Store conn.old)
         → Stands (state S.Store conn.old) (state S.Store conn.new)) }
     ensures survives { Survives (state S.Store conn.old) (state S.Store conn.new) (Adds (state S.Store conn.old)) }
@@ -92,7 +92,7 @@ pub(crate) fn fill_tables<S: Alter>(
     conn: &mut Connection<S>,
 ) -> Result<Order, StoreFault>
     ensures ok { HasCleanDisk (state S.Store conn.new) → IfOk result (λ order. IsFilled (layout_of order) (state S.Store conn.old) (state S.Store conn.new)) }
-    ensures known { IfOk result (λ _. HasCleanDisk (state S.Store conn.new) → (present : Present) × ((state S.Store conn.old).now.schema ≡ schema_in present)) }
+    ensures known { IfOk result (λ _. HasCleanDisk (state S.Store conn.new) → (present : Present) × IsPresent present (state S.Store conn.old)) }
     ensures kept { HasCleanDisk (state S.Store conn.new) → result ≡ Err stored.Memory → Stands (state S.Store conn.old) (state S.Store conn.new) }
     ensures faults { IfErr result (λ fault. (fault ≡ stored.Device) ⊎ (fault ≡ stored.Memory)) }
     ensures survives { Survives (state S.Store conn.old) (state S.Store conn.new) (Adds (state S.Store conn.old)) }

@@ -2,8 +2,11 @@
 #![tactic(auto)]
 
 mod filling;
+mod looking;
 mod order;
 mod settling;
 mod store;
 
+pub use looking::Said;
+pub use record_rows::WhoseRow;
 pub use store::SqlStore;

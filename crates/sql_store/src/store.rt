@@ -60,7 +60,7 @@ impl<S: Alter> SqlStore<S> {
     ghost use Rattle.record_rows.specs.Ours.{Stands};
     ghost use Rattle.record_rows.specs.Tables.{Present, schema_in};
     ghost use Rattle.stable_store.specs.declared.fault.StoreFault.TheVariants.{Device, Memory};
-    ghost use Rattle.sql_store.specs.Adopted.{Adds, FoundRecords, FoundStarted, IsFilled};
+    ghost use Rattle.sql_store.specs.Adopted.{Adds, FoundRecords, FoundStarted, IsFilled, IsPresent};
     ghost use Rattle.sql_store.specs.Sql.{stored_in};
 
     /// A store over the connection, with what its database holds; a table that is absent is made, and empty. With the fault it hands
@@ -75,7 +75,7 @@ impl<S: Alter> SqlStore<S> {
         ensures filled { IfOk result (λ store. HasCleanDisk (state S.Store store.conn)
             → IsFilled store.layout (state S.Store conn) (state S.Store store.conn)) }
         ensures known { IfOk result (λ store. HasCleanDisk (state S.Store store.conn)
-            → (present : Present) × ((state S.Store conn).now.schema ≡ schema_in present)) }
+            → (present : Present) × IsPresent present (state S.Store conn)) }
         ensures records { IfOk result (λ store. (present : Present) (records : Records) → (state S.Store conn).now.schema ≡ schema_in present
             → FoundRecords present (state S.Store conn).now.trees records → (stored_in S.Store store).holds records) }
         ensures started { IfOk result (λ store. (present : Present) (started : ℕ) → (state S.Store conn).now.schema ≡ schema_in present

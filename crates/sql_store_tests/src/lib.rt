@@ -6,6 +6,8 @@ mod damage;
 #[cfg(test)]
 mod files;
 #[cfg(test)]
+mod looking;
+#[cfg(test)]
 mod same;
 #[cfg(test)]
 mod stores;

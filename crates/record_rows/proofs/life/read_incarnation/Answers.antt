@@ -5,6 +5,7 @@ use Rattle.record_rows.specs.declared.fault.ReadFault.TheVariants.{Damaged}
 use Rattle.record_rows.specs.Content.{IsShownLife}
 use Rattle.record_rows.specs.Ours.{IsStrange}
 use Rattle.record_rows.proofs.Texts.{read_life_text, read_life_plain}
+use Rattle.record_rows.proofs.BesideLemmas.{told_beside}
 use Rattle.record_rows.proofs.StateLemmas.{stands_then, unchanged_stands, query_error_stands, survives_probed, ours_is_settled}
 use Rattle.record_rows.proofs.ReadLemmas.{shown_unchanged, strange_survives, told_life, told_no_life, not_shut}
 use Rattle.record_rows.proofs.life.read_incarnation.Goals as goal
@@ -24,8 +25,9 @@ pub returns-in-Ok-clause-kept : goal.returns-in-Ok-clause-kept
 returns-in-Ok-clause-kept g c clean not layout ours =
     let old = state g.S.Store c.args.conn.now in
     let new = state g.S.Store c.query_all.new.self in
-    unchanged_stands old new (ours_is_settled layout old ours) (shown_unchanged read_life_text [] old new _ ours.schema
-    (read_life_plain layout) c.in-Ok.shown.items (c.in-Ok.ensures.ok clean))
+    let told = told_beside layout old.now.schema ours.schema in
+    unchanged_stands old new (ours_is_settled layout old ours) (shown_unchanged read_life_text [] old new _ told.2
+    (read_life_plain layout told.0) c.in-Ok.shown.items (c.in-Ok.ensures.ok clean))
 
 pub returns-in-Ok-clause-survives : goal.returns-in-Ok-clause-survives
 returns-in-Ok-clause-survives g c = strange_survives read_life_text [] (state g.S.Store c.args.conn.now)

@@ -8,6 +8,7 @@ use Rattle.sqlite.specs.Held.{state}
 use Rattle.record_rows.specs.Content.{entry_of, AreShownAs}
 use Rattle.record_rows.specs.Ours.{IsStrange}
 use Rattle.record_rows.proofs.Texts.{read_slots_text, read_slots_plain}
+use Rattle.record_rows.proofs.BesideLemmas.{told_beside}
 use Rattle.record_rows.proofs.StateLemmas.{stands_then, unchanged_stands, query_error_stands, survives_probed, ours_is_settled}
 use Rattle.record_rows.proofs.ReadLemmas.{shown_unchanged, strange_survives, not_shut}
 use Rattle.record_rows.proofs.SlotReads.{told_slots}
@@ -23,8 +24,9 @@ pub returns-in-Ok-clause-kept : goal.returns-in-Ok-clause-kept
 returns-in-Ok-clause-kept g c clean not layout ours =
     let old = state g.S.Store c.args.conn.now in
     let new = state g.S.Store c.query_all.new.self in
-    unchanged_stands old new (ours_is_settled layout old ours) (shown_unchanged read_slots_text [] old new _ ours.schema
-    (read_slots_plain layout) c.in-Ok.shown.items (c.in-Ok.ensures.ok clean))
+    let told = told_beside layout old.now.schema ours.schema in
+    unchanged_stands old new (ours_is_settled layout old ours) (shown_unchanged read_slots_text [] old new _ told.2
+    (read_slots_plain layout told.0) c.in-Ok.shown.items (c.in-Ok.ensures.ok clean))
 
 pub returns-in-Ok-clause-survives : goal.returns-in-Ok-clause-survives
 returns-in-Ok-clause-survives g c = strange_survives read_slots_text [] (state g.S.Store c.args.conn.now)
