@@ -4,3 +4,4 @@ pub mod Checked
 pub mod Sound
 pub mod Built
 pub mod Blank
+pub mod Apart

@@ -3,6 +3,7 @@ pub mod Rows
 pub mod Listen
 pub mod Faults
 pub mod Config
+pub mod Digests
 pub mod Building
 pub mod Scripts
 pub mod OwnKeys

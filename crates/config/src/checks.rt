@@ -9,10 +9,12 @@ ghost use Rattle.config.specs.Keys.{name_of};
 ghost use Rattle.config.specs.Rows.{RepeatsAt, has_twice, same_value};
 ghost use Rattle.toml.specs.declared.value.Value.{Value};
 
+use crate::digests::{are_all_named, are_apart};
 use crate::key::Key;
 use crate::place::Place;
 use crate::rows::{number_in, rows, text_in};
 use crate::values::admits;
+use std::alloc::Global;
 use toml::Value;
 
 /// The first of some keys of which something is missing, and where.
@@ -28,11 +30,11 @@ pub(crate) fn first_missing(document: &Value, keys: &[Key]) -> Option<Place>
 }
 
 /// The first of some keys that has a value that it may not have, and where.
-pub(crate) fn first_bad(document: &Value, keys: &[Key]) -> Option<Place>
+pub(crate) fn first_bad(alloc: Global, document: &Value, keys: &[Key]) -> Option<Place>
     ensures { MatchOption result (AllByRecursion (spec.IsFit (view document.now)) keys.now) (spec.IsUnfit (view document.now)) }
 {
     for key in keys {
-        if let Some(row) = row_that_is_bad(document, *key) {
+        if let Some(row) = row_that_is_bad(alloc, document, *key) {
             return Some(Place { key: *key, row });
         }
     }
@@ -40,11 +42,11 @@ pub(crate) fn first_bad(document: &Value, keys: &[Key]) -> Option<Place>
 }
 
 /// The first of some keys that is given twice with one value, and where it is given again.
-pub(crate) fn first_repeated(document: &Value, keys: &[Key]) -> Option<Place>
+pub(crate) fn first_repeated(alloc: Global, document: &Value, keys: &[Key]) -> Option<Place>
     ensures { MatchOption result (AllByRecursion (λ key. spec.is_once (view document.now) key ≡ true) keys.now) (spec.IsAgain (view document.now)) }
 {
     for key in keys {
-        if let Some(row) = row_that_repeats(document, *key) {
+        if let Some(row) = row_that_repeats(alloc, document, *key) {
             return Some(Place { key: *key, row });
         }
     }
@@ -97,9 +99,12 @@ fn is_no_list(value: &Value) -> bool
 }
 
 /// The first table of a key in which it has a value that it may not have.
-fn row_that_is_bad(document: &Value, key: Key) -> Option<usize>
+fn row_that_is_bad(alloc: Global, document: &Value, key: Key) -> Option<usize>
     ensures { MatchOption result (spec.IsFit (view document.now) key) (λ row. spec.IsUnfit (view document.now) (record { key = key; row = row })) }
 {
+    if key == Key::RouteAccount && are_all_named(alloc, document) {
+        return None;
+    }
     first_unfit(document, key, rows(document, key.part()))
 }
 
@@ -127,10 +132,10 @@ fn fits(document: &Value, key: Key, row: &Value) -> bool
 }
 
 /// A table of a key that has the value of an earlier one, if no two may have one value of it.
-fn row_that_repeats(document: &Value, key: Key) -> Option<usize>
+fn row_that_repeats(alloc: Global, document: &Value, key: Key) -> Option<usize>
     ensures { MatchOption result (spec.is_once (view document.now) key ≡ true) (λ row. spec.IsAgain (view document.now) (record { key = key; row = row })) }
 {
-    if !key.is_unique() {
+    if !key.is_unique() || are_apart(alloc, rows(document, key.part()), key.name()) {
         return None;
     }
     first_again(rows(document, key.part()), key.name())

@@ -4,6 +4,7 @@
 mod build;
 mod checks;
 mod config;
+mod digests;
 mod fault;
 mod key;
 mod listen;

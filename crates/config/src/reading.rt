@@ -23,7 +23,7 @@ pub fn read_config(alloc: Global, octets: &[u8]) -> Result<Config, ConfigFault>
     ensures memory { result ≡ Err ConfigFault.Memory → ¬ IsBlank octets.now }
 {
     let document = document_of(alloc, octets)?;
-    check(&document)?;
+    check(alloc, &document)?;
     Ok(build(alloc, &document)?)
 }
 
@@ -40,16 +40,16 @@ pub(crate) fn document_of(alloc: Global, octets: &[u8]) -> Result<Value, ConfigF
 }
 
 /// Whether a document has no fault.
-fn check(document: &Value) -> Result<(), ConfigFault>
+fn check(alloc: Global, document: &Value) -> Result<(), ConfigFault>
     ensures { spec.IsChecked (view document.now) result }
 {
     if let Some(place) = first_missing(document, &KEYS) {
         return Err(ConfigFault::Missing(place));
     }
-    if let Some(place) = first_bad(document, &KEYS) {
+    if let Some(place) = first_bad(alloc, document, &KEYS) {
         return Err(ConfigFault::BadValue(place));
     }
-    if let Some(place) = first_repeated(document, &KEYS) {
+    if let Some(place) = first_repeated(alloc, document, &KEYS) {
         return Err(ConfigFault::Repeated(place));
     }
     Ok(())

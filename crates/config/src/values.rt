@@ -157,7 +157,7 @@ fn any_named(rows: &[Value], name: &str) -> bool
 }
 
 /// Whether a row is the account of a name.
-fn is_named(row: &Value, name: &str) -> bool
+pub(crate) fn is_named(row: &Value, name: &str) -> bool
     ensures { result ≡ spec.is_named name.now (view row.now) }
 {
     same_text(text_in(row, "system_id"), Some(name))

@@ -10,4 +10,6 @@ mod own;
 #[cfg(test)]
 mod same;
 #[cfg(test)]
+mod warned;
+#[cfg(test)]
 mod whole;
