@@ -15,8 +15,9 @@ PROGRAM is the built program. Each part starts it over files of its own, in thre
                         no store has a line of the log, and it starts again
     ends                sessions end in each way that one peer alone can bring about, and a bind is refused: a line tells who ended it, whose it was, and
                         from where
-    stores              a store is missing, empty, older, another node's or two nodes' own, its key is misspelled, or there are fewer or more nodes than before:
-                        each start is refused by status 1 and one line that names node and file, and no file is changed; a start is killed between two stores
+    stores              a store is missing (also one that no other names), empty, older, another node's or two nodes' own, its key is misspelled, or there are
+                        fewer or more nodes than before: each start is refused by status 1 and one line that names node and file, and no file is changed; a
+                        start is killed between two stores; stores of an earlier program go on; files and memory together start once
     threads             the user of serve may start few more threads: who is bound goes on, and somebody new once others have gone (needs root)
 
 It prints `ok NAME` or `not ok NAME: SEEN` for each check, `left out: ..` for what this machine lacks, figures in lines that begin with spaces, and at last
@@ -79,8 +80,11 @@ STANDARD, HARMLESS = range(3), re.compile(r"/dev/null|pipe:\[\d+\]|/.+/serve\.ou
 CLOSED = {"all": "<&- >&- 2>&-", "input_and_output": "<&- >&-", "error": "2>&-"}
 LOG_WORDS = (b"listens on", b"serving:", b"connected from", b"bound as")
 
-# stores: how long after its first file a start is killed.
+# stores: how long after its first file a start is killed; the stores of an earlier program; and what is said of a node in memory beside others in files.
 PAUSES = (0, 0, 0, 0.001, 0.002, 0.005, 0.01, 0.02)
+EARLIER = pathlib.Path(__file__).resolve().parent.parent / "crates" / "earlier_stores" / "data"
+EARLIER_NAMES = ("one_of_three", "two_of_three", "three_of_three")
+MIXED = re.compile(r"warning: node 2 keeps its records in memory, .*")
 
 # ends: after how many seconds a session ends on which nothing comes, or nobody binds.
 IDLE_SECONDS, BIND_SECONDS = 4, 2
@@ -161,6 +165,11 @@ def miss(serving, _):
         path.unlink()
 
 
+def miss_unnamed(serving, older):
+    put_back(older, serving.folder / STORES)
+    miss(serving, older)
+
+
 def empty(serving, older):
     miss(serving, older)
     (serving.folder / STORES / "2.db").touch()
@@ -220,11 +229,12 @@ class Slip(NamedTuple):
 
 SLIPS = {
     "missing": Slip(miss, "2", r"2\.db"),
+    "missing_and_unnamed": Slip(miss_unnamed, "2", r"2\.db"),
     "empty": Slip(empty, "2", r"2\.db"),
     "older": Slip(put_older, "2", r"2\.db"),
     "exchanged": Slip(exchange, "23"),
     "shared": Slip(share, "23", r"3\.db"),
-    "misspelled": Slip(misspell, "2", r"\bstor\b"),
+    "misspelled": Slip(misspell, "2", "`store`"),
     "three_made_one": Slip(count_one, "123"),
     "three_made_four": Slip(count_four, "1234"),
 }
@@ -557,6 +567,8 @@ class Slips:
                 self.check("stores_that_are_right_serve", self.ids_are(esme, ids, pdus.ENROUTE), ids)
         if not any([self.killed_between(*numbered) for numbered in enumerate(PAUSES, 1)]):
             self.left_out("no start was killed before all stores were there")
+        self.earlier_stores()
+        self.mixed_stores()
 
     def two_backups(self, serving, ports, older, newer):
         """The stores without a message, and then with one of each node: their ids."""
@@ -595,6 +607,28 @@ class Slips:
                 ids = self.ids(ports, b"anew")
                 self.check(f"stores_killed_{number}_take_messages", all(ids), ids)
             return sum(name.endswith(".db") for name in made) < NODES
+
+    def earlier_stores(self):
+        """Stores of an earlier program, which do not say whose they are, go on; from then on they do."""
+        with self.centre() as (serving, ports):
+            stores = serving.folder / STORES
+            for node, name in enumerate(EARLIER_NAMES, 1):
+                for end in ("", "-wal"):
+                    shutil.copy(EARLIER / f"{name}.db{end}", stores / f"{node}.db{end}")
+            self.goes_on_once("earlier", serving, miss, SLIPS["missing"])
+
+    def mixed_stores(self):
+        with self.centre() as (serving, ports):
+            misspell(serving, None)
+            self.goes_on_once("mixed", serving, lambda *_: None, SLIPS["misspelled"])
+            self.check("stores_mixed_warned", any(MIXED.fullmatch(line) for line in serving.lines), serving.said)
+
+    def goes_on_once(self, name, serving, does, slip):
+        """It serves; and then, once this is done, no more."""
+        self.check(f"stores_{name}_serve", serving.start(START_SECONDS), serving.said)
+        serving.end(END_SECONDS)
+        does(serving, None)
+        self.refused_stores(serving, name, slip)
 
     # Threads.
 

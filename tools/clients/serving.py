@@ -15,6 +15,7 @@ ROLE = "(transmitter|receiver|transceiver)"
 WHOM = r"; ([a-z0-9]+|not bound,) from 127\.0\.0\.1:\d+"
 # Each line that may stand on standard error while nothing is wrong.
 LINES = [LISTENS, SERVING, ENDED, *map(re.compile, (
+    r"centre \d{4}-\d{2}-\d{2} of Tomveul, SMPP 3\.4",
     SESSION + r"connected from 127\.0\.0\.1:\d+",
     SESSION + rf"bound as {ROLE}, interface_version 0x[0-9a-f]{{2}}{WHOM}",
     SESSION + rf"bind_{ROLE} refused with 0x[0-9a-f]{{2}}, system_id [!-~]*{WHOM}",

@@ -8,7 +8,10 @@ use script_runner::{CountedReader, CountedWriter, run_program};
 use serve_runner::{Asked, asked_by, inspect, serve_file};
 use std::io;
 use std::process::ExitCode;
-use telling::{arguments, tell_help, tell_inspected, tell_memory, tell_served, tell_version};
+use telling::{
+    arguments, tell_help, tell_inspected, tell_memory, tell_no_file, tell_served, tell_strange,
+    tell_version,
+};
 use until_end::ends_with_input;
 
 fn main(rt: HostRuntime) -> ExitCode {
@@ -31,8 +34,10 @@ fn main(rt: HostRuntime) -> ExitCode {
             Some(asked) => tell_served(&rt, serve_file(&rt, &rt, file, options, asked)),
             None => tell_memory(&rt),
         },
-        Asked::Check => tell_inspected(&rt, inspect(&rt, file)),
+        Asked::Check(is_strict) => tell_inspected(&rt, inspect(&rt, file), is_strict),
         Asked::Help => tell_help(&rt),
         Asked::Version => tell_version(&rt),
+        Asked::NoFile => tell_no_file(&rt, &words),
+        Asked::Strange(place) => tell_strange(&rt, &words, place),
     }
 }

@@ -1,5 +1,5 @@
 -- What waits to be written on a connection, and what is being written (own).
-use Rattle.std.specs.Prelude.{ℕ, ◌==◌, Bool, false, Option, Some, None, filter, not, if◌then◌else◌}
+use Rattle.std.specs.Prelude.{ℕ, ◌==◌, Bool, false, List, Option, Some, None, filter, not, if◌then◌else◌}
 use Rattle.std.specs.List.{list_any, slice_get}
 use Rattle.std.specs.Option.{option_map_or}
 use Rattle.connection_parts.specs.declared.outbox.Frame.{Frame}

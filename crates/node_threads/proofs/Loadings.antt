@@ -7,13 +7,17 @@ use Rattle.mc_model.specs.node.Setup.{Setup}
 use Rattle.sim_net.proofs.Growing.{get_push}
 use Rattle.stable_store.specs.Stored.{Stored}
 use Rattle.node_core.specs.declared.life.Life.{Life}
-use Rattle.node_core.specs.Loadings.{Begins, IsLoaded, Loading}
+use Rattle.stable_store.specs.declared.fault.StoreFault.{StoreFault}
+use Rattle.stable_store.specs.declared.fault.StoreFault.TheVariants as faults
+use Rattle.node_core.specs.Loadings.{Begins, FailsToBegin, IsLoaded, Loading}
 use Rattle.node_core.specs.Nodes.{Standing}
 use Rattle.node_core.specs.Setups.{setup_with}
 use Rattle.journal_parts.proofs.GoingOn.{there_is}
 use Rattle.node_threads.specs.Defaults.{Defaults}
-use Rattle.node_threads.specs.Loadings.{AreLoaded, BeginOver, HaveBegun}
-use Rattle.node_threads.specs.Openings.{AreOpened}
+use Rattle.node_threads.specs.Loadings.{AreLoaded, BeginOver, CantBegin, CantBeginOne, HaveBegun}
+use Rattle.node_threads.specs.Openings.{AreOpened, fault_at}
+use Rattle.node_threads.specs.declared.start_fault.StartFault.{StartFault}
+use Rattle.node_threads.specs.declared.start_fault.StartFault.TheVariants as starts
 use Rattle.node_threads.proofs.Openings.{at_end, before_end}
 
 -- ---- three lists, one more of each
@@ -150,3 +154,30 @@ module _ {S : Type 0} (stored : S → Stored) where
       begin_over all nodes lives
       (subst (λ (ls : List (Loading S)). HaveBegun stored ls nodes lives)
       (sym (have.split ∙ ap (λ (rest : List (Loading S)). have.older ++ rest) none ∙ append-nil have.older)) have.are)
+
+  -- ---- why they do not begin
+
+  pub cant_begin : (one : Loading S) (number : ℕ) (fault : StoreFault) (after : S) → number ≡ one.kept.setup.node → FailsToBegin stored one fault after →
+      CantBeginOne stored one (fault_at number fault)
+  cant_begin one number faults.Memory after is fails = tt
+  cant_begin one number faults.Device after is fails = (is, λ same. cc, after, fails)
+  cant_begin one number faults.Damaged after is fails = (is, λ same. cc, after, fails)
+  cant_begin one number faults.Incarnations after is fails = (is, λ same. cc, after, fails)
+
+  pub fails_there : (all before left : List (Loading S)) (one : Loading S) (nodes : List (Standing S)) (lives : List Life) (fault : StartFault) →
+      AreBeginning all before nodes lives → before ≡ one ∷ left → CantBeginOne stored one fault → CantBegin stored all fault
+  fails_there all before left one nodes lives (starts.Open number fault) have first cant = record {
+    older = have.older;
+    one = one;
+    newer = left;
+    split = have.split ∙ ap (λ (rest : List (Loading S)). have.older ++ rest) first;
+    number_is = cant.0;
+    nodes = nodes;
+    lives = lives;
+    before = have.are;
+    known = cant.1;
+    after = cant.2;
+    fails = cant.3;
+  }
+  fails_there all before left one nodes lives starts.Nodes have first none = none
+  fails_there all before left one nodes lives starts.Memory have first cant = tt

@@ -1,8 +1,8 @@
 //! What the arguments of the program ask for.
 
-ghost use Rattle.std.specs.Prelude.{◌≡◌, map};
+ghost use Rattle.std.specs.Prelude.{◌≡◌, false, map};
 ghost use Rattle.std.specs.String.{string_bytes};
-ghost use Rattle.serve_runner.specs.Arguments.{alone, asked_by, options_from, plain, with_file, with_option};
+ghost use Rattle.serve_runner.specs.Arguments.{alone, asked_by, checks_from, is_help, is_option, plain, serves_from, with_file, with_option};
 
 /// How a server is to be run, behind its file.
 #[derive(Clone, Copy, Debug, PartialEq, Eq)]
@@ -20,12 +20,16 @@ pub enum Asked {
     Script,
     /// `serve FILE`: to serve by the configuration in a file.
     Serve(Options),
-    /// `check FILE`: to say what the configuration in a file means, or why it is none.
-    Check,
-    /// `--help`: to say how the program is called.
+    /// `check FILE`: to say what the configuration in a file means, or why it is none; true with `--strict`: a warning is a fault.
+    Check(bool),
+    /// `--help`, `-h` or `help`, or the first two in place of a file: to say how the program is called.
     Help,
     /// `--version`: to say which program it is.
     Version,
+    /// An option stands in place of the file.
+    NoFile,
+    /// Behind a file the word of this place, from 0, is no option of what it is asked for.
+    Strange(usize),
     /// Nothing that there is.
     Unknown,
 }
@@ -37,7 +41,7 @@ pub fn asked_by(arguments: &[String]) -> Asked
     match arguments {
         [] => Asked::Unknown,
         [word] => alone(word.as_str()),
-        [word, _, options @ ..] => with_file(word.as_str(), options),
+        [word, file, options @ ..] => with_file(word.as_str(), file.as_str(), options),
     }
 }
 
@@ -47,7 +51,7 @@ fn alone(word: &str) -> Asked
 {
     if word == "script" {
         Asked::Script
-    } else if word == "--help" {
+    } else if is_help(word) || word == "help" {
         Asked::Help
     } else if word == "--version" {
         Asked::Version
@@ -56,34 +60,52 @@ fn alone(word: &str) -> Asked
     }
 }
 
-/// What a word asks for that a file follows, and these options.
-fn with_file(word: &str, options: &[String]) -> Asked
-    ensures { result ≡ with_file word.now (map string_bytes options.now) }
+/// Whether a word asks for help.
+fn is_help(word: &str) -> bool
+    ensures { result ≡ is_help word.now }
 {
-    if word == "serve" {
-        match options_in(options) {
-            Some(options) => Asked::Serve(options),
-            None => Asked::Unknown,
-        }
-    } else if word == "check" && options.is_empty() {
-        Asked::Check
-    } else {
+    word == "--help" || word == "-h"
+}
+
+/// Whether a word is an option of whatever word.
+fn is_option(word: &str) -> bool
+    ensures { result ≡ is_option word.now }
+{
+    word == "--quiet" || word == "--until-eof" || word == "--strict"
+}
+
+/// What a word asks for that a file follows, and these options.
+fn with_file(word: &str, file: &str, options: &[String]) -> Asked
+    ensures { result ≡ with_file word.now file.now (map string_bytes options.now) }
+{
+    if word != "serve" && word != "check" {
         Asked::Unknown
+    } else if is_help(file) {
+        Asked::Help
+    } else if is_option(file) {
+        Asked::NoFile
+    } else if word == "serve" {
+        served_with(options)
+    } else {
+        checked_with(options)
     }
 }
 
-/// The options of a server, if each word is one.
-fn options_in(words: &[String]) -> Option<Options>
-    ensures { result ≡ options_from plain (map string_bytes words.now) }
+/// Serving with these options, if each word is one.
+fn served_with(words: &[String]) -> Asked
+    ensures { result ≡ serves_from plain 0 (map string_bytes words.now) }
 {
     let mut options = Options {
         is_quiet: false,
         is_until_end: false,
     };
-    for word in words {
-        options = with_option(options, word.as_str())?;
+    for (place, word) in words.iter().enumerate() {
+        match with_option(options, word.as_str()) {
+            Some(more) => options = more,
+            None => return Asked::Strange(place),
+        }
     }
-    Some(options)
+    Asked::Serve(options)
 }
 
 /// The options with one more, if the word is one.
@@ -103,4 +125,18 @@ fn with_option(options: Options, word: &str) -> Option<Options>
     } else {
         None
     }
+}
+
+/// Checking with these options, if each word is one.
+fn checked_with(words: &[String]) -> Asked
+    ensures { result ≡ checks_from false 0 (map string_bytes words.now) }
+{
+    let mut is_strict = false;
+    for (place, word) in words.iter().enumerate() {
+        if word.as_str() != "--strict" {
+            return Asked::Strange(place);
+        }
+        is_strict = true;
+    }
+    Asked::Check(is_strict)
 }

@@ -4,12 +4,22 @@
 mod asked;
 mod fault;
 mod inspecting;
+mod listing;
+mod looking;
+mod marking;
 mod opening;
+mod private;
+mod refusal;
 mod running;
 mod standard;
+mod stores;
+mod unopened;
+mod version;
 
 pub use asked::{Asked, Options, asked_by};
 pub use fault::ServeFault;
 pub use inspecting::inspect;
+pub use refusal::Refusal;
 pub use running::serve_file;
-pub use server::{Stamp, stamp};
+pub use server::{Stamp, stamp_now};
+pub use version::PROGRAM;

@@ -5,61 +5,106 @@ ghost use Rattle.node_stores.specs.Stores.{kept_in};
 ghost use Rattle.server.specs.Loadings.{AreLoaded, BeginAJournal};
 
 use crate::fault::ServeFault;
-use config::{Config, NodeConfig, Own, read_config, read_own};
+use config::{Config, ConfigFault, NodeConfig, Own, read_config, read_own};
+use config_warnings::warnings;
 use node_stores::NodeStore;
 use server::{Defaults, Life, Loaded, Node, StartFault, begin_nodes, load_nodes};
-use std::alloc::Global;
+use std::alloc::{AllocError, Global};
 use std::fs;
 use std::net::{Net, SocketAddr, TcpListener, TcpStream};
-use std::rt::{Files, HostRuntime};
+use std::rt::Files;
+use toml::Value;
+
+/// A configuration, with the text that was read.
+#[derive(Drop)]
+pub(crate) struct Source {
+    pub(crate) config: Config,
+    pub(crate) own: Own,
+    pub(crate) octets: Vec<u8>,
+    /// The table that the octets are.
+    pub(crate) document: Value,
+}
 
 /// What the configuration in a file says.
 #[derive(Drop)]
 pub(crate) struct Configured {
     pub(crate) config: Config,
     pub(crate) own: Own,
+    /// The lines that warn of what is hardly meant.
+    pub(crate) warned: String,
 }
 
-/// The configuration in a file. File, Config or Own, in this order, if there is none; else an `Err` is want of memory.
+/// The configuration in a file, with its text. File, then NotToml or Config, then Own, if there is none; else an `Err` is want of memory.
+pub(crate) fn read_source<R: Files + AllocGlobal>(
+    rt: &R,
+    path: &str,
+) -> Result<Source, ServeFault> {
+    let alloc = rt.alloc();
+    let octets = match fs::read(rt, path) {
+        Ok(octets) => octets,
+        Err(error) => return Err(ServeFault::File(String::from_str(alloc, path)?, error)),
+    };
+    let config = match read_config(alloc, &octets) {
+        Ok(config) => config,
+        Err(ConfigFault::NotToml) => return Err(not_toml(alloc, &octets)?),
+        Err(fault) => return Err(ServeFault::Config(fault)),
+    };
+    let own = match read_own(alloc, &octets) {
+        Ok(own) => own,
+        Err(fault) => return Err(ServeFault::Own(fault)),
+    };
+    match toml::table_from_slice(alloc, &octets) {
+        Ok(members) => Ok(Source {
+            config,
+            own,
+            octets,
+            document: Value::Table(members),
+        }),
+        Err(_) => Err(ServeFault::Memory),
+    }
+}
+
+/// Why octets are no TOML, and where.
+fn not_toml(alloc: Global, octets: &[u8]) -> Result<ServeFault, AllocError> {
+    match toml::table_from_slice(alloc, octets) {
+        Err(error) if !error.is_memory() => Ok(ServeFault::NotToml(toml_text(alloc, error)?)),
+        _ => Ok(ServeFault::Memory),
+    }
+}
+
+/// The place of an error of TOML, and what went wrong there, in one line: `line 3, column 14: unclosed array`.
+fn toml_text(alloc: Global, error: toml::de::Error) -> Result<String, AllocError> {
+    let told = format!(in alloc; "{error}")?;
+    let place = match told.as_str().split_once('\n') {
+        Some((place, _)) => place,
+        None => "",
+    };
+    let place = place.strip_prefix("TOML parse error at ").unwrap_or(place);
+    let message = error.message();
+    format!(in alloc; "{place}: {message}")
+}
+
+/// The configuration in a file, and the lines that warn of it. The faults are those of `read_source`.
 pub(crate) fn read_file<R: Files + AllocGlobal>(
     rt: &R,
     path: &str,
 ) -> Result<Configured, ServeFault> {
-    let Ok(octets) = fs::read(rt, path) else {
-        return Err(ServeFault::File(String::from_str(rt.alloc(), path)?));
-    };
-    let config = match read_config(rt.alloc(), &octets) {
-        Ok(config) => config,
-        Err(fault) => return Err(ServeFault::Config(fault)),
-    };
-    match read_own(rt.alloc(), &octets) {
-        Ok(own) => Ok(Configured { config, own }),
-        Err(fault) => Err(ServeFault::Own(fault)),
-    }
-}
-
-/// The stores of the nodes, that of node 1 first. Store tells of the first that can't be opened.
-pub(crate) fn open_stores(
-    host: &HostRuntime,
-    alloc: Global,
-    nodes: &[NodeConfig],
-) -> Result<Vec<NodeStore>, ServeFault> {
-    let mut stores = Vec::with_capacity(alloc, nodes.len())?;
-    for node in nodes {
-        let path = match &node.store {
-            Some(path) => Some(path.as_str()),
-            None => None,
-        };
-        match NodeStore::open(host, alloc, path) {
-            Ok(store) => stores.push(store)?,
-            Err(fault) => return Err(ServeFault::Store(number_of(stores.len()), fault)),
-        }
-    }
-    Ok(stores)
+    let Source {
+        config,
+        own,
+        octets,
+        document,
+    } = read_source(rt, path)?;
+    let warned = warnings(rt.alloc(), &octets, &document, &config)?;
+    Ok(Configured {
+        config,
+        own,
+        warned,
+    })
 }
 
 /// The number of the node at a place.
-fn number_of(place: usize) -> u8 {
+pub(crate) fn number_of(place: usize) -> u8 {
     place.saturating_add(1).min(u8::MAX as usize) as u8
 }
 
@@ -108,7 +153,7 @@ pub(crate) fn listen_all<R: Net<Listener = TcpListener, Stream = TcpStream>>(
     for node in nodes {
         match TcpListener::bind(rt, SocketAddr::from(node.listen)) {
             Ok(listener) => listeners.push(listener)?,
-            Err(_) => return Err(ServeFault::Listen(node.listen)),
+            Err(error) => return Err(ServeFault::Listen(node.listen, error)),
         }
     }
     Ok(listeners)

@@ -7,13 +7,15 @@ ghost use Rattle.serve_runner.specs.Beginnings.{defaults_in};
 
 use crate::asked::Options;
 use crate::fault::ServeFault;
-use crate::opening::{Configured, begin_all, listen_all, load_all, open_stores, read_file};
+use crate::opening::{Configured, begin_all, listen_all, load_all, read_file};
 use crate::standard::fill_standard;
+use crate::stores::open_stores;
+use crate::version::PROGRAM;
 use config::{Config, NodeConfig};
 use node_stores::NodeStore;
 use server::{
     Beginning, Defaults, Doors, Ending, LAST_INCARNATION, Life, MOST_SEATS, Served, Settings,
-    serve, stamp,
+    serve, stamp_now,
 };
 use std::alloc::{AllocError, Global};
 use std::marker::Brand;
@@ -25,10 +27,12 @@ use std::sync::{Arc, Wait};
 use std::thread::Threads;
 
 /// Serves by the configuration in a file until it ends: how many entries its journal has, in all its parts. Of several faults that keep it from serving
-/// Nothing is told first, then that of the file, those of the configuration, of stores that can't be opened, of what they hold, of the listeners, and of stores
-/// that take no next incarnation. So a start that fails before uses up none. Once it serves, Ended or Journal tell why it ended, if it was not asked to.
+/// Nothing is told first, then that of the file, those of the configuration, of stores that can't be opened or are not those of this cluster, of what they
+/// hold, of the listeners, and of stores that take no next incarnation. So a start that fails before uses up none. Once it serves, Ended or Journal tell why it
+/// ended, if it was not asked to.
 ///
-/// The lines that tell where nodes listen come once all stores are open, and all nodes listen; the line that the centre serves once all nodes may be served.
+/// The lines that tell the version, and where nodes listen, come once all stores are open, and all nodes listen, and behind them those that warn of the
+/// configuration; the line that the centre serves comes once all nodes may be served.
 pub fn serve_file<
     R: Threads
         + Wait
@@ -68,9 +72,13 @@ fn serve_by<
     options: Options,
     asked: Arc<AtomicBool>,
 ) -> Result<u64, ServeFault> {
-    let Configured { config, own } = read_file(rt, path)?;
+    let Configured {
+        config,
+        own,
+        warned,
+    } = read_file(rt, path)?;
     let alloc = rt.alloc();
-    let stores = open_stores(host, alloc, &config.nodes)?;
+    let stores = open_stores(rt, host, &config.nodes)?;
     let Some(defaults) = Defaults::make(config.first_serial, config.default_validity) else {
         return Err(ServeFault::Memory);
     };
@@ -78,6 +86,8 @@ fn serve_by<
     let listeners = listen_all(rt, alloc, &config.nodes)?;
     let (nodes, lives) = begin_all(alloc, loaded)?;
     tell_start(rt, &config, &lives);
+    let _ = rt.eprint(warned.as_str());
+    drop(warned);
     let beginning = Beginning {
         blank: Blank::new(MOST_SEATS),
         nodes,
@@ -128,8 +138,10 @@ fn ended(served: Served<NodeStore>) -> Result<u64, ServeFault> {
 /// From which incarnation on of 9,999 an operator is told at each start how many are left.
 const LATE_INCARNATION: u16 = 9_000;
 
-/// Tells where each node listens, in which incarnation, and where its store is.
+/// Tells which program it is, and of each node where it listens, in which incarnation, and where its store is.
 fn tell_start<R: Eprint + Clock>(rt: &R, config: &Config, lives: &[Life]) {
+    let stamp = stamp_now(rt);
+    let _ = eprintln!(rt; "{stamp} {PROGRAM}");
     for (node, life) in config.nodes.iter().zip(lives) {
         tell_node(rt, node, life);
     }
@@ -140,7 +152,7 @@ fn tell_node<R: Eprint + Clock>(rt: &R, node: &NodeConfig, life: &Life) {
     let number = life.node().number();
     let incarnation = life.incarnation().number();
     let address = node.listen;
-    let stamp = stamp(rt);
+    let stamp = stamp_now(rt);
     let _ = match &node.store {
         Some(path) => {
             eprintln!(rt;

@@ -38,12 +38,7 @@ fn served<
         + Net<Listener = TcpListener, Stream = TcpStream>
         + AllocGlobal
         + Sync,
->(
-    rt: &R,
-    host: &HostRuntime,
-    addresses: Addresses,
-    lines: &'static str,
-) {
+>(rt: &R, host: &HostRuntime, addresses: Addresses, lines: &'static str) {
     let alloc = rt.alloc();
     let asked = Arc::new(alloc, AtomicBool::new(false)).expect(rt, "memory");
     let theirs = Arc::try_clone(&asked).expect(rt, "a share");
@@ -51,25 +46,21 @@ fn served<
         is_quiet: true,
         is_until_end: false,
     };
-    let entries = thread::scope(
-        thread::scope_env(),
-        rt,
-        move |scope| -> u64 {
-            let clients = scope.spawn(move || {
-                talked(rt, alloc, addresses, lines);
-                asked.store(true, Ordering::SeqCst);
-            });
-            let ended = serve_file(rt, host, CONFIG, options, theirs);
-            match clients {
-                Ok(clients) => clients.join(rt),
-                Err(_) => panic!(rt; "a thread"),
-            }
-            match ended {
-                Ok(entries) => entries,
-                Err(_) => panic!(rt; "it ends well"),
-            }
-        },
-    );
+    let entries = thread::scope(thread::scope_env(), rt, move |scope| -> u64 {
+        let clients = scope.spawn(move || {
+            talked(rt, alloc, addresses, lines);
+            asked.store(true, Ordering::SeqCst);
+        });
+        let ended = serve_file(rt, host, CONFIG, options, theirs);
+        match clients {
+            Ok(clients) => clients.join(rt),
+            Err(_) => panic!(rt; "a thread"),
+        }
+        match ended {
+            Ok(entries) => entries,
+            Err(_) => panic!(rt; "it ends well"),
+        }
+    });
     assert!(rt; entries > 0);
 }
 

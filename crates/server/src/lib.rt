@@ -31,7 +31,7 @@ mod trouble;
 mod working;
 
 pub use ending::Ending;
-pub use log::{Stamp, stamp};
+pub use log::{Stamp, stamp_now};
 pub use mc_types::LAST_INCARNATION;
 pub use node_workers::{
     Defaults, Life, Loaded, MOST_SEATS, Node, StartFault, begin_nodes, load_nodes,

@@ -16,7 +16,7 @@ const MANY_LINES: usize = 1_000;
 pub struct Stamp([u8; 24]);
 
 /// What the clock of the system says now.
-pub fn stamp<R: Clock>(rt: &R) -> Stamp {
+pub fn stamp_now<R: Clock>(rt: &R) -> Stamp {
     Stamp(stamp_at(milliseconds(rt)))
 }
 
@@ -112,7 +112,7 @@ impl Log {
 
     /// A line waits to be written, unless so many do.
     fn put<R: Wait + Clock, D: fmt::Display + Drop>(&self, rt: &R, line: D, most: usize) {
-        let stamp = stamp(rt);
+        let stamp = stamp_now(rt);
         let text = format!(in self.alloc; "{stamp} {line}");
         let mut lines = self.lines.lock(rt);
         match text {
@@ -129,7 +129,7 @@ impl Log {
             let _ = match self.next(rt) {
                 Told::Line(line) => rt.eprintln(line),
                 Told::Lost(count) => {
-                    let stamp = stamp(rt);
+                    let stamp = stamp_now(rt);
                     rt.eprintln(format_args!("{stamp} log: {count} lines were not told"))
                 }
                 Told::End => return,

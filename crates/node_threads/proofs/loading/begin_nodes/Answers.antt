@@ -1,5 +1,6 @@
 use Rattle.std.proofs.Common.{◌≡◌, [], rules}
-use Rattle.node_threads.proofs.Loadings.{all_begun, next_begun, none_begun}
+use Rattle.node_threads.specs.Loadings.{CantBegin}
+use Rattle.node_threads.proofs.Loadings.{all_begun, fails_there, next_begun, none_begun}
 use Rattle.node_threads.proofs.Openings.{as_they_are}
 use Rattle.node_threads.proofs.loading.begin_nodes.Goals as goal
 
@@ -26,3 +27,10 @@ returns-clause-begins g c defaults stores are =
     let over = all_begun g.S.StableStore.stored c.args.loaded.items c.loop-one.left.items c.loop-one.nodes.items c.loop-one.lives.items none
     c.loop-one.invariant defaults stores are in
     as_they_are g.S.StableStore.stored defaults stores c.loop-one.nodes.items c.loop-one.lives.items over
+
+pub returns-in_err-node-clause-fault : goal.returns-in_err-node-clause-fault
+returns-in_err-node-clause-fault g c =
+    let fails : CantBegin g.S.StableStore.stored c.args.loaded.items c.in_err-node.field-0.0 =
+    fails_there g.S.StableStore.stored c.args.loaded.items c.loop-one.left.items c.pop_front.new.self.items c.in-Some.one c.loop-one.nodes.items
+    c.loop-one.lives.items c.in_err-node.field-0.0 c.loop-one.invariant c.in-Some.ensures.items c.in_err-node.ensures.fault in
+    search (rules, fails)
