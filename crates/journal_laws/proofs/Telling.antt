@@ -342,12 +342,12 @@ module _ (cluster : Cluster) (behind : List Packet) (inputs : List NodeInput) (e
   accepted_known older accepting taken id among accepts it =
       messages_are_known cluster inputs (tried_in entries) way.last reaches way.may (tried_in older ++ map tried (before_it it.asking)) taken id
       (λ mid r.
-          let out = given_so_far older (map tried (before_it it.asking)) mid r accepting among in
-          record {
-            outputs = out.same;
-            among = out.among;
-            accepts = subst (In (record { ticket = taken; id = id; answer = Accepted })) (sym out.replies) accepts;
-          })
+      let out = given_so_far older (map tried (before_it it.asking)) mid r accepting among in
+      record {
+        outputs = out.same;
+        among = out.among;
+        accepts = subst (In (record { ticket = taken; id = id; answer = Accepted })) (sym out.replies) accepts;
+      })
       (answered_later older id Unknown it)
 
   -- ---- where a final state is told

@@ -15,9 +15,9 @@ mod ticks;
 
 pub use attempts::{a_grant_is_exact, a_grant_is_judged, a_response_is_exact};
 pub use clusters::{
-    a_cancelled_message_is_given_out_as_deleted, a_cluster_of_nodes_runs, a_delivery_stands_on_an_answered_attempt,
-    a_later_query_is_told_the_fate, a_later_request_is_of_a_known_message,
-    a_receipt_is_given_out_on_a_told_of_its_node,
+    a_cancelled_message_is_given_out_as_deleted, a_cluster_of_nodes_runs,
+    a_delivery_stands_on_an_answered_attempt, a_later_query_is_told_the_fate,
+    a_later_request_is_of_a_known_message, a_receipt_is_given_out_on_a_told_of_its_node,
     no_attempt_is_granted_after_a_fate, one_fate_is_given_out, one_receipt_is_given_out,
     what_is_given_out_was_chosen,
 };
