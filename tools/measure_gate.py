@@ -6,12 +6,14 @@
     python3 tools/measure_gate.py --crates A B        runs it on these crates alone and those below them, of which no edits are tried; prints
                                                       the rows of these
     python3 tools/measure_gate.py .. --cores N        the same, on so many of this machine's cores
+    python3 tools/measure_gate.py .. --keep           the same, and leaves the clone, with the programs that it built
     python3 tools/measure_gate.py --functions CRATE   checks one crate from nothing, with its tests; prints its ten dearest functions, and
                                                       the sum of the sizes of its `*Lts.oantt`, which does not depend on what runs beside
 
 Processor time and memory are read off /proc four times a second for each process that the gate starts: what a process used after its last reading is lost,
 and stands under 'other' with compilers, linkers and `rt` itself. The last line of the gate is printed as it is. Beside others a process takes more
-processor time than alone, and on one core the gate runs one at a time.
+processor time than alone, and on one core the gate runs one at a time. So two things are told with it: what the host took of the machine meanwhile, and
+how long the same work, which has nothing to do with the gate, took before it and behind it.
 """
 import argparse
 import collections
@@ -33,6 +35,8 @@ from repository import BESIDE, IN_GATE, TOP, edits, libraries, lines_of, with_be
 
 TICKS = os.sysconf("SC_CLK_TCK")
 INTERVAL = 0.25
+# How many numbers the work sorts that is timed before the gate and behind it.
+SORTED = 3_000_000
 BEGIN, END = "<!-- measured: begin -->", "<!-- measured: end -->"
 # How long the lines of the page are at most.
 WIDTH = 160
@@ -50,6 +54,15 @@ HEAD = [
     "| Crate | Code | Definitions | Proofs | Edits | Beside | Check, s | of the clock | GB | Tests, s | GB | Edits, s | All, min |",
     "|---|---|---|---|---|---|---|---|---|---|---|---|---|",
 ]
+
+
+@dataclasses.dataclass
+class Day:
+    """The machine during a run: what the host took of it, in hundredths, and the seconds of the yardstick before the run and behind it."""
+
+    taken: float
+    before: float
+    behind: float
 
 
 @dataclasses.dataclass
@@ -163,6 +176,23 @@ def peak_of(pid):
     return int(held[1]) * 1024 if held else 0
 
 
+def yardstick():
+    """Seconds of processor time of a work that is the same on each machine and day: some numbers are put in order."""
+    numbers, state = [], 1
+    for _ in range(SORTED):
+        state = (state * 1_103_515_245 + 12_345) % 2**31
+        numbers.append(state)
+    before = time.process_time()
+    numbers.sort()
+    return time.process_time() - before
+
+
+def ticks_of_machine():
+    """Ticks since this machine began: those that the host took from it, and all."""
+    ticks = [int(word) for word in pathlib.Path("/proc/stat").read_text().split("\n")[0].split()[1:9]]
+    return ticks[7], sum(ticks)
+
+
 def anew():
     """The words by which `rt ci` begins from nothing: some kits want a flag for it."""
     help_text = subprocess.run(["rt", "help"], capture_output=True, text=True)
@@ -237,7 +267,15 @@ def budget_of(code):
     return MOST_OF_FIRST + MOST_A_THOUSAND * max(0, code - FIRST_LINES) / 1000
 
 
-def whole_of(clone, sampler, wall, processor, last):
+def day_of(run):
+    """What a run gives, and the day on which it was made."""
+    before, (taken, all_before) = yardstick(), ticks_of_machine()
+    given = run()
+    taken_behind, all_behind = ticks_of_machine()
+    return given, Day(100 * (taken_behind - taken) / max(1, all_behind - all_before), before, yardstick())
+
+
+def whole_of(clone, sampler, day, wall, processor, last):
     """What the whole gate took, in sentences."""
     crates, cores = libraries(clone), len(os.sched_getaffinity(0))
     code = sum(lines_of(clone / "crates" / crate / "src", "*.rt") for crate in crates)
@@ -253,7 +291,8 @@ def whole_of(clone, sampler, wall, processor, last):
         f"**{processor / 60:.0f} minutes of processor time** (at most {budget_of(code):.0f} for {code} lines of code), {wall / 60:.0f} of the clock"
         f"{of_the_clock}, `{last}`. The checks take {spent['check']:.0f} minutes, the tests {spent['tests']:.0f}, "
         f"the {count} edits {spent['edits']:.0f} (the crates that have one are checked once more for it, which took {again:.0f} minutes the first time), "
-        f"and other processes {processor / 60 - sum(spent.values()):.0f}. {beside} more edits stand beside the gate."
+        f"and other processes {processor / 60 - sum(spent.values()):.0f}. {beside} more edits stand beside the gate. The host took {day.taken:.0f} % of the "
+        f"machine; putting {SORTED // 1_000_000} million numbers in order took {day.before:.1f} seconds before the run and {day.behind:.1f} behind it."
     )
     return textwrap.wrap(told, WIDTH, break_on_hyphens=False)
 
@@ -295,14 +334,14 @@ def clone_of_head():
     return clone
 
 
-def measure(wanted, write):
+def measure(wanted, write, keep):
     clone = clone_of_head()
     if wanted:
         narrow(clone, wanted)
-    sampler, wall, processor, last = run_gate(clone)
+    (sampler, wall, processor, last), day = day_of(lambda: run_gate(clone))
     shown = [crate for crate in libraries(clone) if not wanted or crate in wanted]
     rows = [row_of(clone, crate, sampler) for crate in shown]
-    whole = [f"`{last}`"] if wanted else whole_of(clone, sampler, wall, processor, last)
+    whole = [f"`{last}`"] if wanted else whole_of(clone, sampler, day, wall, processor, last)
     lines = measured(clone, sampler, rows, whole)
     print("\n".join(lines))
     print(f"{sum(minutes_of(sampler, crate) for crate in shown):.1f} minutes of processor time for these crates")
@@ -310,7 +349,10 @@ def measure(wanted, write):
         page = TOP / "docs" / "GATE.md"
         head, rest = page.read_text().split(BEGIN)
         page.write_text(head + BEGIN + "\n" + "\n".join(lines) + "\n" + END + rest.split(END)[1])
-    shutil.rmtree(clone.parent)
+    if keep:
+        print(f"{clone} is left")
+    else:
+        shutil.rmtree(clone.parent)
 
 
 def function_of(file, crate):
@@ -352,6 +394,7 @@ def main():
     parser = argparse.ArgumentParser(description=__doc__, formatter_class=argparse.RawDescriptionHelpFormatter)
     parser.add_argument("--write", action="store_true", help="write what a whole run took into docs/GATE.md")
     parser.add_argument("--crates", metavar="CRATE", nargs="+", default=[], help="measure these crates alone")
+    parser.add_argument("--keep", action="store_true", help="leave the clone, with the programs that were built")
     parser.add_argument("--functions", metavar="CRATE", help="the dearest functions of one crate")
     parser.add_argument("--cores", metavar="N", type=int, default=os.cpu_count(), help="how many cores to run on")
     arguments = parser.parse_args()
@@ -361,7 +404,7 @@ def main():
     if arguments.functions:
         dearest_functions(arguments.functions)
     else:
-        measure(arguments.crates, arguments.write)
+        measure(arguments.crates, arguments.write, arguments.keep)
 
 
 if __name__ == "__main__":
