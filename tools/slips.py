@@ -19,6 +19,7 @@ PROGRAM is the built program. Each part starts it over files of its own, in thre
                         fewer or more nodes than before: each start is refused by status 1 and one line that names node and file, and no file is changed; a
                         start is killed between two stores; stores of an earlier program go on; files and memory together start once
     threads             the user of serve may start few more threads: who is bound goes on, and somebody new once others have gone (needs root)
+    memory              serve may take no more memory: it says so and goes on, and once it may again everybody is served, and knows each message that was taken
 
 It prints `ok NAME` or `not ok NAME: SEEN` for each check, `left out: ..` for what this machine lacks, figures in lines that begin with spaces, and at last
 `N checks, M wrong`; the exit status is 1 if any is wrong. It takes some six minutes, uses the standard library alone, and ends what it started.
@@ -30,6 +31,7 @@ import hashlib
 import os
 import pathlib
 import re
+import resource
 import shutil
 import socket
 import struct
@@ -91,6 +93,10 @@ IDLE_SECONDS, BIND_SECONDS = 4, 2
 
 # threads: the user that serves and does nothing else, how many more threads it may start, how many bind then, and in what time their threads end.
 USER, MORE_THREADS, BINDS, GONE_SECONDS = 54_321, 45, 6, 3
+
+# memory: how many octets more than it has it may take, and how many long messages are tried in vain to use them up; and what it says then.
+MORE_OCTETS, LONG, LONG_MESSAGES, WANT_SECONDS = 1_000_000, b"x" * 4_000, 5_000, 10
+WANT = re.compile(r"memory: \d+ times there was not enough for what was asked for")
 
 
 class Deaf(Client):
@@ -675,6 +681,38 @@ class Slips:
             return "ended"
         return found.status if found else "nothing"
 
+    # Want of memory.
+
+    def memory(self):
+        with self.centre() as (serving, ports):
+            started(serving)
+            ids = self.ids(ports, b"before")
+            process = serving.process.pid
+            before = resource.prlimit(process, resource.RLIMIT_DATA)
+            resource.prlimit(process, resource.RLIMIT_DATA, (self.data_of(process) + MORE_OCTETS, before[1]))
+            taken = self.taken_until_none(ports[0])
+            print(f"   {len(taken)} messages of {len(LONG)} octets were taken until one was not", flush=True)
+            self.check("memory_is_wanted", len(taken) < LONG_MESSAGES and serving.is_up(), serving.said)
+            self.check("memory_is_told", serving.says(WANT, WANT_SECONDS), serving.said)
+            resource.prlimit(process, resource.RLIMIT_DATA, before)
+            for node, port in enumerate(ports, 1):
+                self.check(f"memory_somebody_new_at_{node}", *self.served(port))
+            with bound(ports[1], "sender", pdus.BIND_TRANSMITTER) as esme:
+                self.check("memory_nothing_is_lost", self.ids_are(esme, ids + taken, pdus.ENROUTE), ids)
+
+    def data_of(self, process):
+        """How many octets of memory a process may write to."""
+        words = pathlib.Path(f"/proc/{process}/status").read_text().split()
+        return int(words[words.index("VmData:") + 1]) * 1024
+
+    def taken_until_none(self, port):
+        """The ids of long messages, until one is not taken."""
+        found = []
+        with contextlib.suppress(Ended, OSError), bound(port, "sender", pdus.BIND_TRANSMITTER) as esme:
+            while len(found) < LONG_MESSAGES and (one := esme.submitted("2", b"", [(pdus.MESSAGE_PAYLOAD, LONG)], registered=0)):
+                found.append(one)
+        return found
+
     def all(self, parts):
         for name in parts:
             print(f"{name}:", flush=True)
@@ -685,7 +723,7 @@ class Slips:
 
 
 PARTS = {"refused_submits": Slips.refused_submits, "taken_port": Slips.taken_port, "closed_descriptors": Slips.closed_descriptors,
-         "silent_log": Slips.silent_log, "ends": Slips.ends, "stores": Slips.stores, "threads": Slips.threads, "slow_reader": Slips.slow_reader,
+         "silent_log": Slips.silent_log, "ends": Slips.ends, "stores": Slips.stores, "threads": Slips.threads, "memory": Slips.memory, "slow_reader": Slips.slow_reader,
          "clock": Slips.clock}
 
 
