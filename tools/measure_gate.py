@@ -12,8 +12,8 @@
 
 Processor time and memory are read off /proc four times a second for each process that the gate starts: what a process used after its last reading is lost,
 and stands under 'other' with compilers, linkers and `rt` itself. The last line of the gate is printed as it is. Beside others a process takes more
-processor time than alone, and on one core the gate runs one at a time. So two things are told with it: what the host took of the machine meanwhile, and
-how long the same work, which has nothing to do with the gate, took before it and behind it.
+processor time than alone, and on one core the gate runs one at a time. So three things are told with it: what the host took of the machine meanwhile, what
+ran beside the gate, and how long the same work, which has nothing to do with the gate, took before it and behind it.
 """
 import argparse
 import collections
@@ -58,9 +58,11 @@ HEAD = [
 
 @dataclasses.dataclass
 class Day:
-    """The machine during a run: what the host took of it, in hundredths, and the seconds of the yardstick before the run and behind it."""
+    """The machine during a run: what the host took of it, in hundredths, for how many minutes its processors worked, and the seconds of the yardstick before
+    the run and behind it."""
 
     taken: float
+    busy: float
     before: float
     behind: float
 
@@ -188,9 +190,10 @@ def yardstick():
 
 
 def ticks_of_machine():
-    """Ticks since this machine began: those that the host took from it, and all."""
-    ticks = [int(word) for word in pathlib.Path("/proc/stat").read_text().split("\n")[0].split()[1:9]]
-    return ticks[7], sum(ticks)
+    """Ticks since this machine began: those that the host took from it, those in which it worked, and all."""
+    user, nice, system, idle, waiting, interrupts, soft, taken = map(int, pathlib.Path("/proc/stat").read_text().split("\n")[0].split()[1:9])
+    busy = user + nice + system + interrupts + soft
+    return taken, busy, busy + idle + waiting + taken
 
 
 def anew():
@@ -269,10 +272,10 @@ def budget_of(code):
 
 def day_of(run):
     """What a run gives, and the day on which it was made."""
-    before, (taken, all_before) = yardstick(), ticks_of_machine()
+    before, ticks = yardstick(), ticks_of_machine()
     given = run()
-    taken_behind, all_behind = ticks_of_machine()
-    return given, Day(100 * (taken_behind - taken) / max(1, all_behind - all_before), before, yardstick())
+    taken, busy, all_ticks = (behind - first for first, behind in zip(ticks, ticks_of_machine()))
+    return given, Day(100 * taken / max(1, all_ticks), busy / TICKS / 60, before, yardstick())
 
 
 def whole_of(clone, sampler, day, wall, processor, last):
@@ -292,7 +295,7 @@ def whole_of(clone, sampler, day, wall, processor, last):
         f"{of_the_clock}, `{last}`. The checks take {spent['check']:.0f} minutes, the tests {spent['tests']:.0f}, "
         f"the {count} edits {spent['edits']:.0f} (the crates that have one are checked once more for it, which took {again:.0f} minutes the first time), "
         f"and other processes {processor / 60 - sum(spent.values()):.0f}. {beside} more edits stand beside the gate. The host took {day.taken:.0f} % of the "
-        f"machine; putting {SORTED // 1_000_000} million numbers in order took {day.before:.1f} seconds before the run and {day.behind:.1f} behind it."
+        f"machine, and what ran beside the gate {max(0.0, day.busy - processor / 60):.0f} minutes of its processors; putting {SORTED // 1_000_000} million numbers in order took {day.before:.1f} seconds before the run and {day.behind:.1f} behind it."
     )
     return textwrap.wrap(told, WIDTH, break_on_hyphens=False)
 
