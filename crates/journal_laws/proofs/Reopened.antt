@@ -1,5 +1,5 @@
 -- The worked journal of a node that opens over the store that it left is one.
-use Rattle.std.proofs.Common.{◌≡◌, ℕ, ◌+◌, ◌<◌, List, [], ◌∷◌, None, Some, refl, sym, ap, subst, inl, inr, arith}
+use Rattle.std.proofs.Common.{◌≡◌, ℕ, ◌+◌, ◌<◌, List, [], None, Some, refl, sym, ap, subst, inl, inr, arith}
 use Rattle.std.specs.Global.{Vec}
 use Rattle.mc_model.specs.message.Chain.{IsPermitted}
 use Rattle.mc_model.specs.synod.Packet.{Packet, Prepare, Promise, Propose, Voted}

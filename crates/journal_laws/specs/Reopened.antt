@@ -4,7 +4,7 @@ use Rattle.std.specs.Global.{Vec}
 use Rattle.mc_model.specs.message.Decree.{Decree, Told}
 use Rattle.mc_model.specs.synod.Lists.{In}
 use Rattle.mc_model.specs.synod.OneSlot.{Vote, vote_at}
-use Rattle.mc_model.specs.synod.Packet.{Ask, Name, Packet, Prepare, Promise, Propose, Slot, Tell, TopVote, Voted, slot_at, top_at}
+use Rattle.mc_model.specs.synod.Packet.{Ask, Name, Packet, Prepare, Promise, Propose, Slot, Tell, Voted, slot_at, top_at}
 use Rattle.mc_model.specs.node.Input.{Delivery}
 use Rattle.mc_model.specs.node.Outputs.{Outputs, Receipt, Reply}
 use Rattle.mc_model.specs.node.Replies.{Removed}

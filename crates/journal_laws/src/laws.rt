@@ -209,8 +209,6 @@ pub fn a_journal_is_worked()
 /// the receipt on DELETED.
 pub fn a_journal_over_an_old_store_is_worked()
     ensures cancelled { WasToldDeleted }
-    ensures journal {
-      (quiet : ℕ → Given) → IsQuiet quiet → (telling : Given) → TellsIt telling → (up : Vec (List ℕ))
-      → (ends : ℕ → Kept) × IsJournalOver alone cancelled none_new none_lost (reopened quiet telling up) ends
-    }
+    ensures journal { (quiet : ℕ → Given) → IsQuiet quiet → (telling : Given) → TellsIt telling → (up : Vec (List ℕ))
+        → (ends : ℕ → Kept) × IsJournalOver alone cancelled none_new none_lost (reopened quiet telling up) ends }
 {}
