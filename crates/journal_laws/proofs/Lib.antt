@@ -11,3 +11,4 @@ pub mod Parts
 pub mod Entries
 pub mod Telling
 pub mod Worked
+pub mod Reopened

@@ -44,7 +44,7 @@ use Rattle.journal_laws.specs.Telling.{AcceptedAreKnown, AllReceiptsStand, AreCh
 use Rattle.journal_laws.specs.Telling.{GrantNoneAfterACancel, GrantNoneAfterAFate, IdsAreNotRefusedAtOnce, IsAnsweredLater, KeepsItsPromises}
 use Rattle.journal_laws.specs.Telling.{LaterQueriesAreTold, StandsOnAnAttempt, TellOneFate, TellOneReceipt, told_by, told_so_far}
 use Rattle.journal_laws.specs.Joining.{IsCut}
-use Rattle.journal_laws.proofs.Entries.{IsNoStop, before_it, done_among, done_at, events_tried, found, front_of, in_made, lives_by, lives_tried}
+use Rattle.journal_laws.proofs.Entries.{IsNoStop, before_it, done_at, events_tried, found, front_of, lives_by, lives_tried}
 use Rattle.journal_laws.proofs.Entries.{tried, tried_among, tried_in}
 use Rattle.journal_laws.proofs.Joining.{cut}
 use Rattle.journal_laws.proofs.Running.{runs_on}

@@ -18,7 +18,7 @@ use Rattle.world_runs.specs.Runs.{given_out, node_at}
 use Rattle.journal_laws.specs.Journals.{Entry, IsInRange, IsJournal, IsOwnRun, WereSent, done_in, entries_at}
 use Rattle.journal_laws.specs.Example.{IsQuiet, alone, before, prepare, promise, propose, refused, worked}
 
-abbrev setup : Setup
+abbrev pub setup : Setup
 setup = setup_of alone 1
 
 abbrev then : Kept → Input → Kept
@@ -46,7 +46,7 @@ anew = then halted (Restart 0)
 abbrev pub at_last : Kept
 at_last = then anew (Delivery prepare)
 
-one_of : IsOneOf setup
+pub one_of : IsOneOf setup
 one_of = record { least = omega arith; most = omega arith; few = omega arith }
 
 next_message : IsNextMessage setup ticked first_id message
@@ -56,7 +56,7 @@ next_message = record {
   takes = record { node = refl; incarnation = refl; expiry = omega arith; schedule = omega arith };
 }
 
-happens : MayHappen alone before
+pub happens : MayHappen alone before
 happens = (
   one_of,
   refl,

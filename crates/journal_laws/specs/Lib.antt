@@ -7,3 +7,4 @@ pub mod Likeness
 pub mod Parts
 pub mod Telling
 pub mod Example
+pub mod Reopened

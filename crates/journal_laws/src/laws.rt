@@ -1,5 +1,6 @@
 //! Laws of journals: nothing to call, but to cite.
 
+ghost use Rattle.std.specs.Global.{Vec};
 ghost use Rattle.std.specs.Prelude.{ℕ, ◌≤◌, Bool, [], ◌++◌, List, Ok, map, reverse};
 ghost use Rattle.mc_model.specs.synod.Packet.{Packet};
 ghost use Rattle.mc_model.specs.cluster.Steps.{Cluster, setup_of};
@@ -23,6 +24,7 @@ ghost use Rattle.journal_laws.specs.Example.{IsQuiet, alone, before, worked};
 ghost use Rattle.journal_laws.specs.Joining.{IsCut, IsListed};
 ghost use Rattle.journal_laws.specs.Likeness.{AreAllAlike};
 ghost use Rattle.journal_laws.specs.Parts.{IsPart, LeadTo};
+ghost use Rattle.journal_laws.specs.Reopened.{TellsIt, WasToldDeleted, cancelled, none_lost, none_new, reopened};
 ghost use Rattle.journal_laws.specs.OldStores.{AreLeft, IsJournalOver, kept_opened, openings};
 ghost use Rattle.journal_laws.specs.Openings.{KeepsAsLeft, KeepsAsNew};
 ghost use Rattle.journal_laws.specs.Telling.{
@@ -201,4 +203,12 @@ pub fn a_journal_keeps_its_promises()
 /// out but for packets is nothing.
 pub fn a_journal_is_worked()
     ensures { (quiet : ℕ → Given) → IsQuiet quiet → (ends : ℕ → Kept) × IsJournal alone [] before (worked quiet) ends }
+{}
+
+/// So are such over old stores: a node that told ESME_ROK to a cancel_sm opens over the store that it left, follows the vote of its record at a tick, and tells
+/// the receipt on DELETED.
+pub fn a_journal_over_an_old_store_is_worked()
+    ensures cancelled { WasToldDeleted }
+    ensures journal { (quiet : ℕ → Given) → IsQuiet quiet → (telling : Given) → TellsIt telling → (up : Vec (List ℕ))
+        → (ends : ℕ → Kept) × IsJournalOver alone cancelled none_new none_lost (reopened quiet telling up) ends }
 {}
