@@ -29,9 +29,11 @@ from checks import Checks
 from plain_esme import Ended, Esme
 from repository import TOP
 
-SECONDS, BOOT_SECONDS = 30, 300
+SECONDS, START_SECONDS, BOOT_SECONDS = 30, 15, 900
 UNIT, PORT = "tomveul.service", 2775
 STATE = pathlib.Path("/var/lib/tomveul")
+# What is said at an end in order.
+ENDED = re.compile(r"ended: \d+ entries in the journal")
 # In the container: what is run there, as a unit, and where its lines go.
 TRIAL, SAID = "trial.service", "/trial.said"
 TRIAL_UNIT = """[Unit]
@@ -143,7 +145,7 @@ def try_unit(checks, name, unit):
     began = time.monotonic()
     checks.check(f"{name}: stopped", ran("systemctl", "stop", UNIT)[0] == 0 and time.monotonic() < began + SECONDS, said)
     checks.check(f"{name}: ended well", (shown("ActiveState"), shown("Result")) == ("inactive", "success"), lambda: (shown("Result"), said()))
-    checks.check(f"{name}: ended in order", ("ended: " in said().splitlines()[-1]) == (name == "in order"), said)
+    checks.check(f"{name}: ended in order", bool(ENDED.search(said())) == (name == "in order"), said)
     checks.check(f"{name}: started again", ran("systemctl", "start", UNIT)[0] == 0 and comes(is_served) and is_known(message), said)
     ran("systemctl", "disable", "--now", UNIT)
     ran("journalctl", "--rotate", "--vacuum-time=1s")
@@ -160,7 +162,7 @@ def try_taken_port(checks, unit):
         holder.bind(("127.0.0.1", PORT))
         holder.listen()
         ran("systemctl", "start", UNIT)
-        checks.check("a taken port: given up", comes(lambda: shown("ActiveState") == "failed", 5 * burst), said)
+        checks.check("a taken port: given up", comes(lambda: shown("ActiveState") == "failed", START_SECONDS * burst), said)
     told = [line for line in said().splitlines() if "2775" in line and "listens" not in line]
     checks.check("a taken port: so many starts", len(told) == burst, lambda: (len(told), said()))
 
