@@ -1,5 +1,6 @@
 //! The frames of an input, and what it ends in.
 
+use crate::same::assert_same;
 use crate::source::Source;
 use frame_io::{FrameFault, next_frame};
 use octet_io::CountedReader;
@@ -113,6 +114,31 @@ fn nothing_behind_a_frame_is_read(rt: HostRuntime) {
     );
     assert_eq!(rt; read, Ok(true));
     assert_eq!(rt; source.octets, &INPUT[ENDS[1]..]);
+}
+
+/// How often a reader that gives all that it is asked for is asked for a frame with this command_length.
+fn reads_of<A: Abort + AllocGlobal>(rt: &A, length: u32) -> usize {
+    let mut octets = Vec::from_slice(rt.alloc(), &length.to_be_bytes()).expect(rt, "memory");
+    octets.resize(length as usize, 0).expect(rt, "memory");
+    let mut source = Source::of(&octets, 8192);
+    let mut framer = Framer::make(rt.alloc()).expect(rt, "memory");
+    let mut frame = Vec::new(rt.alloc());
+    let read = next_frame(
+        &mut CountedReader::make(&mut source),
+        &mut framer,
+        &mut frame,
+    );
+    assert_same(rt, &(read, frame.len()), &(Ok(true), length as usize));
+    source.reads
+}
+
+/// Once for the command_length, and then for 1,024 octets at a time.
+#[test]
+fn a_frame_takes_few_reads(rt: HostRuntime) {
+    for (length, most) in [(16, 2), (1028, 2), (8192, 9)] {
+        let few = reads_of(&rt, length) <= most;
+        assert_same(&rt, &(length, few), &(length, true));
+    }
 }
 
 /// The same call, made again, goes on where it stopped.

@@ -15,6 +15,8 @@ pub struct Source<'a> {
     pub interrupts: bool,
     /// Whether the last one was not.
     pub was_read: bool,
+    /// How often it was read.
+    pub reads: usize,
 }
 
 impl Source<'_> {
@@ -26,12 +28,14 @@ impl Source<'_> {
             fails_at: None,
             interrupts: false,
             was_read: true,
+            reads: 0,
         }
     }
 }
 
 impl Read for Source<'_> {
     fn read(&mut self, buffer: &mut [u8]) -> io::Result<usize> {
+        self.reads = self.reads.saturating_add(1);
         self.was_read = !self.was_read;
         if self.interrupts && !self.was_read {
             return Err(ErrorKind::Interrupted.into());

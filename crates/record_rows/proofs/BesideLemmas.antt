@@ -1,5 +1,5 @@
 -- What stands beside the two tables stays as it is.
-use Rattle.std.proofs.Common.{◌≡◌, ◌≢◌, ℕ, ◌+◌, ◌<◌, ◌≤◌, ◌++◌, Bool, IsTrue, IfOk, Result, Ok, Err, List, [], ◌∷◌, map, take, length, get_or, Option, Some, refl, sym, ap, subst, ◌∙◌, arith}
+use Rattle.std.proofs.Common.{◌≡◌, ◌≢◌, inl, inr, ℕ, ◌+◌, ◌<◌, ◌≤◌, ◌↔◌, ◌++◌, Bool, IsTrue, IfOk, Result, Ok, Err, List, [], ◌∷◌, map, take, length, get_or, Option, refl, sym, ap, subst, ◌∙◌, arith}
 use Rattle.std.specs.Prelude.{filter_map, flat_map}
 use Rattle.std.specs.List.{AllByRecursion}
 use Rattle.std.proofs.lemmas.List.{take_more, take_all, map-append}
@@ -12,8 +12,8 @@ use Rattle.sqlite.specs.Change.{KeepsRows}
 use Rattle.sqlite_schema.specs.declared.schema.Keys.TheVariants.{Enforced}
 use Rattle.sqlite_schema.specs.declared.schema.Reference.{Reference}
 use Rattle.sqlite_rules.specs.Action.{Work, works, work_for}
-use Rattle.record_rows.specs.Found.{IsPlainTable}
-use Rattle.record_rows.specs.Beside.{Form, table_of, IsAmong, IsBeside, AreBeside, IsSchemaOf, beside_in, forms}
+use Rattle.record_rows.specs.Found.{HasFirstKey, IsPlainTable}
+use Rattle.record_rows.specs.Beside.{Form, table_of, IsAmong, IsBeside, AreBeside, IsSchemaOf, beside_in, forms, whose, known, gone, ended}
 use Rattle.record_rows.specs.Tables.{Layout, life_first, slots_first, schema_of}
 
 -- no row of a table beside refers to another, so no action follows what is done to the two
@@ -63,17 +63,17 @@ keeps_behind layout schema beside is old db keeps =
 
 -- ---- when a table is one that may stand beside
 
-pub form_is : (table : Table) (form : Form) → IsPlainTable table → table.name ≡ form.name → table.columns ≡ form.columns → table.key ≡ Some 0
-    → table.primary ≡ 0 ∷ [] → table.uniques ≡ [] → table.orders ≡ [] → table.checks ≡ form.checks → table ≡ table_of form table.tree
-form_is table form bare n c k pr u o ch = λ i. record {
-  name = n i;
+pub form_is : (table : Table) (form : Form) → IsPlainTable table → table.name ≡ form.name → table.columns ≡ form.columns → HasFirstKey table
+    → table.checks ≡ form.checks → table ≡ table_of form table.tree
+form_is table form bare named columns keys checks = λ i. record {
+  name = named i;
   tree = table.tree;
-  columns = c i;
-  key = k i;
-  primary = pr i;
-  uniques = u i;
-  orders = o i;
-  checks = ch i;
+  columns = columns i;
+  key = keys.key i;
+  primary = keys.primary i;
+  uniques = keys.uniques i;
+  orders = keys.orders i;
+  checks = checks i;
   references = bare.references i;
   computed = bare.computed i;
   stamps = bare.stamps i;
@@ -102,7 +102,23 @@ pub same_all : {A B : Type 0} (f : B → A) (xs : List A) (ys : List B) → leng
 same_all f xs ys long same =
     sym (take_all (length xs) xs (omega arith)) ∙ same ∙ ap (map f) (take_all (length xs) ys (omega (arith, long)))
 
-pub if_beside : {E : Type 0} (r : Result Bool E) (table : Table) (form : Form) → IsAmong form forms → 3 ≤ table.tree
-    → IfOk r (λ same. IsTrue same → table ≡ table_of form table.tree) → IfOk r (λ same. IsTrue same → IsBeside table)
-if_beside (Ok same) table form listed apart h = λ is. beside_is table form listed apart (h is)
-if_beside (Err e) table form listed apart h = tt
+-- a table that may stand beside is one of the last form, if it is none of the others
+pub last_form : (table : Table) → (table ≡ table_of whose table.tree → ⊥) → (table ≡ table_of known table.tree → ⊥)
+    → (table ≡ table_of gone table.tree → ⊥) → IsBeside table → table ≡ table_of ended table.tree
+last_form table one two three is = by is.form is.listed is.is
+  where
+    by : (form : Form) → IsAmong form forms → table ≡ table_of form table.tree → table ≡ table_of ended table.tree
+    by form (inl e) so = absurd (one (subst (λ f. table ≡ table_of f table.tree) e so))
+    by form (inr (inl e)) so = absurd (two (subst (λ f. table ≡ table_of f table.tree) e so))
+    by form (inr (inr (inl e))) so = absurd (three (subst (λ f. table ≡ table_of f table.tree) e so))
+    by form (inr (inr (inr (inl e)))) so = subst (λ f. table ≡ table_of f table.tree) e so
+    by form (inr (inr (inr (inr none)))) so = absurd none
+
+pub if_beside : {E : Type 0} (r : Result Bool E) (table : Table) → 3 ≤ table.tree → (table ≡ table_of whose table.tree → ⊥)
+    → (table ≡ table_of known table.tree → ⊥) → (table ≡ table_of gone table.tree → ⊥)
+    → IfOk r (λ same. IsTrue same ↔ (table ≡ table_of ended table.tree)) → IfOk r (λ same. IsTrue same ↔ IsBeside table)
+if_beside (Ok same) table apart one two three h = (
+  λ is. beside_is table ended (inr (inr (inr (inl refl)))) apart (h.0 is),
+  λ is. h.1 (last_form table one two three is),
+)
+if_beside (Err e) table apart one two three h = tt

@@ -1,41 +1,39 @@
 -- When a table is one of the two.
-use Rattle.std.proofs.Common.{◌≡◌, ℕ, true, List, [], ◌∷◌, Some, None, codes, length, get_or, ◌<◌, ◌≤◌, sym, arith}
+use Rattle.std.proofs.Common.{◌≡◌, ℕ, Bool, true, false, IsTrue, List, [], ◌∷◌, codes, length, get_or, ◌<◌, ◌≤◌, ◌↔◌, sym, arith}
 use Rattle.sqlite.specs.Table.{Table}
 use Rattle.sqlite_schema.specs.declared.schema.Index.{Index}
 use Rattle.sqlite_value.specs.Keys.{plain}
-use Rattle.record_rows.specs.Found.{IsPlainTable}
+use Rattle.record_rows.specs.Found.{HasFirstKey, HasSlotsKeys, IsPlainTable}
 use Rattle.record_rows.specs.Tables.{life_table, slots_table, slots_index, is_one}
 
-pub life_is : (table : Table) (tree : ℕ) → IsPlainTable table → table.tree ≡ tree → table.name ≡ codes "life"
-    → table.columns ≡ (life_table 0).columns → table.key ≡ Some 0 → table.primary ≡ 0 ∷ []
-    → table.uniques ≡ [] → table.orders ≡ [] → table.checks ≡ is_one ∷ [] → table ≡ life_table tree
-life_is table tree bare p n c k pr u o ch = λ i. record {
-  name = n i;
-  tree = p i;
-  columns = c i;
-  key = k i;
-  primary = pr i;
-  uniques = u i;
-  orders = o i;
-  checks = ch i;
+pub life_is : (table : Table) (tree : ℕ) → IsPlainTable table → (table.name ≡ codes "life") × (table.tree ≡ tree)
+    → table.columns ≡ (life_table 0).columns → HasFirstKey table → table.checks ≡ is_one ∷ [] → table ≡ life_table tree
+life_is table tree bare named columns keys checks = λ i. record {
+  name = named.0 i;
+  tree = named.1 i;
+  columns = columns i;
+  key = keys.key i;
+  primary = keys.primary i;
+  uniques = keys.uniques i;
+  orders = keys.orders i;
+  checks = checks i;
   references = bare.references i;
   computed = bare.computed i;
   stamps = bare.stamps i;
   is_counted = bare.counted i;
 }
 
-pub slots_is : (table : Table) (tree : ℕ) → IsPlainTable table → table.tree ≡ tree → table.name ≡ codes "slots"
-    → table.columns ≡ (slots_table 0).columns → table.key ≡ None → table.primary ≡ 1 ∷ 2 ∷ []
-    → (table.uniques ≡ (1 ∷ 2 ∷ []) ∷ []) × (table.orders ≡ plain ∷ []) → table.checks ≡ [] → table ≡ slots_table tree
-slots_is table tree bare p n c k pr u ch = λ i. record {
-  name = n i;
-  tree = p i;
-  columns = c i;
-  key = k i;
-  primary = pr i;
-  uniques = u.0 i;
-  orders = u.1 i;
-  checks = ch i;
+pub slots_is : (table : Table) (tree : ℕ) → IsPlainTable table → (table.name ≡ codes "slots") × (table.tree ≡ tree)
+    → table.columns ≡ (slots_table 0).columns → HasSlotsKeys table → table.checks ≡ [] → table ≡ slots_table tree
+slots_is table tree bare named columns keys checks = λ i. record {
+  name = named.0 i;
+  tree = named.1 i;
+  columns = columns i;
+  key = keys.key i;
+  primary = keys.primary i;
+  uniques = keys.uniques i;
+  orders = keys.orders i;
+  checks = checks i;
   references = bare.references i;
   computed = bare.computed i;
   stamps = bare.stamps i;
@@ -60,3 +58,13 @@ five_are (v ∷ w ∷ x ∷ y ∷ z ∷ m ∷ more) a b c d e low high p q r s t
 pub five_same : {X : Type 0} (a b c d e a' b' c' d' e' : X) → a ≡ a' → b ≡ b' → c ≡ c' → d ≡ d' → e ≡ e'
     → ◌≡◌ {A = List X} (a ∷ b ∷ c ∷ d ∷ e ∷ []) (a' ∷ b' ∷ c' ∷ d' ∷ e' ∷ [])
 five_same a b c d e a' b' c' d' e' p q r s t = λ i. p i ∷ q i ∷ r i ∷ s i ∷ t i ∷ []
+
+-- what a test that failed was about does not hold
+pub refuted : {P : Type 0} (test : Bool) → test ≡ false → (IsTrue test ↔ P) → P → ⊥
+refuted test failed tells p =
+    let yes : test ≡ true = tells.1 p in
+    cc
+
+pub five_parts : {X : Type 0} (a b c d e a' b' c' d' e' : X) → ◌≡◌ {A = List X} (a ∷ b ∷ c ∷ d ∷ e ∷ []) (a' ∷ b' ∷ c' ∷ d' ∷ e' ∷ [])
+    → (a ≡ a') × (b ≡ b') × (c ≡ c') × (d ≡ d') × (e ≡ e')
+five_parts a b c d e a' b' c' d' e' same = (cc, cc, cc, cc, cc)

@@ -24,7 +24,6 @@ use Rattle.sqlite.proofs.Callers.{IsPlain, command_of, one_step, statement_of}
 use Rattle.sqlite_tied.specs.Compute.{everything}
 use Rattle.record_rows.specs.declared.whose.WhoseRow.{WhoseRow}
 use Rattle.record_rows.specs.Beside.{AreBeside, table_of, whose}
-use Rattle.record_rows.specs.Ours.{IsOurs}
 use Rattle.record_rows.specs.Tables.{Layout, life_first, slots_first, life_tree, slots_tree, schema_of}
 use Rattle.record_rows.specs.Whose.{AreWhose, HasPutWhose, put_whose_text, values_in}
 use Rattle.record_rows.proofs.BesideLemmas.{no_actions, same_behind, schema_told, told_beside}

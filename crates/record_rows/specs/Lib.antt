@@ -6,3 +6,4 @@ pub mod Ours
 pub mod Found
 pub mod Added
 pub mod Whose
+pub mod Silent

@@ -1,6 +1,6 @@
 //! The tables that may stand beside the two.
 
-ghost use Rattle.std.specs.Prelude.{◌≡◌, ◌∷◌, map, IfOk, IsTrue};
+ghost use Rattle.std.specs.Prelude.{◌≡◌, ◌↔◌, ◌∷◌, map, IfOk, IsTrue};
 ghost use Rattle.record_rows.specs.Beside.{AreBeside, IsBeside, ended, gone, key, known, table_of, whose};
 ghost use Rattle.record_rows.specs.Kept.{checks_kept, column_kept, form_of};
 
@@ -36,7 +36,7 @@ pub(crate) struct Form<'a> {
 }
 
 fn is_kept(column: &Column, kept: &Kept<'_>) -> bool
-    ensures { IsTrue result → column.now ≡ column_kept kept.now }
+    ensures { IsTrue result ↔ (column.now ≡ column_kept kept.now) }
 {
     match kept {
         Kept::Whole(name) => is_column(column, name, Kind::Integer, true),
@@ -46,7 +46,7 @@ fn is_kept(column: &Column, kept: &Kept<'_>) -> bool
 
 #[tactic(auto, using(crate::proofs::BesideLemmas::same_more, crate::proofs::BesideLemmas::same_all))]
 fn are_kept(columns: &[Column], kept: &[Kept<'_>]) -> bool
-    ensures { IsTrue result → columns.now ≡ map column_kept kept.now }
+    ensures { IsTrue result ↔ (columns.now ≡ map column_kept kept.now) }
 {
     if columns.len() != kept.len() {
         return false;
@@ -60,7 +60,7 @@ fn are_kept(columns: &[Column], kept: &[Kept<'_>]) -> bool
 }
 
 fn are_columns(columns: &[Column], first: &[u8], others: &[Kept<'_>]) -> bool
-    ensures { IsTrue result → columns.now ≡ key first.now ∷ map column_kept others.now }
+    ensures { IsTrue result ↔ (columns.now ≡ key first.now ∷ map column_kept others.now) }
 {
     match columns {
         [one, behind @ ..] => is_column(one, first, Kind::Integer, false)
@@ -70,7 +70,7 @@ fn are_columns(columns: &[Column], first: &[u8], others: &[Kept<'_>]) -> bool
 }
 
 fn are_checks(alloc: Global, checks: &Terms, is_single: bool) -> Result<bool, AllocError>
-    ensures { IfOk result (λ same. IsTrue same → checks.now ≡ checks_kept is_single) }
+    ensures { IfOk result (λ same. IsTrue same ↔ (checks.now ≡ checks_kept is_single)) }
 {
     if is_single {
         is_check_of_one(alloc, checks)
@@ -81,7 +81,7 @@ fn are_checks(alloc: Global, checks: &Terms, is_single: bool) -> Result<bool, Al
 
 #[tactic(auto, using(crate::proofs::BesideLemmas::form_is))]
 fn is_form(alloc: Global, table: &Table, form: &Form<'_>) -> Result<bool, AllocError>
-    ensures { IfOk result (λ same. IsTrue same → table.now ≡ table_of (form_of form.now) table.now.tree) }
+    ensures { IfOk result (λ same. IsTrue same ↔ (table.now ≡ table_of (form_of form.now) table.now.tree)) }
 {
     if !are_checks(alloc, &table.checks, form.is_single)? {
         return Ok(false);
@@ -100,7 +100,7 @@ fn is_form(alloc: Global, table: &Table, form: &Form<'_>) -> Result<bool, AllocE
 
 /// Whose the store is.
 fn is_whose(alloc: Global, table: &Table) -> Result<bool, AllocError>
-    ensures { IfOk result (λ same. IsTrue same → table.now ≡ table_of whose table.now.tree) }
+    ensures { IfOk result (λ same. IsTrue same ↔ (table.now ≡ table_of whose table.now.tree)) }
 {
     let others = [
         Kept::Whole(b"cluster"),
@@ -119,7 +119,7 @@ fn is_whose(alloc: Global, table: &Table) -> Result<bool, AllocError>
 
 /// Which votes made the node know a chain.
 fn is_known(alloc: Global, table: &Table) -> Result<bool, AllocError>
-    ensures { IfOk result (λ same. IsTrue same → table.now ≡ table_of known table.now.tree) }
+    ensures { IfOk result (λ same. IsTrue same ↔ (table.now ≡ table_of known table.now.tree)) }
 {
     let others = [
         Kept::Whole(b"place"),
@@ -138,7 +138,7 @@ fn is_known(alloc: Global, table: &Table) -> Result<bool, AllocError>
 
 /// Which ids are gone, in spans.
 fn is_gone(alloc: Global, table: &Table) -> Result<bool, AllocError>
-    ensures { IfOk result (λ same. IsTrue same → table.now ≡ table_of gone table.now.tree) }
+    ensures { IfOk result (λ same. IsTrue same ↔ (table.now ≡ table_of gone table.now.tree)) }
 {
     let others = [Kept::Whole(b"last"), Kept::Whole(b"state")];
     let form = Form {
@@ -152,7 +152,7 @@ fn is_gone(alloc: Global, table: &Table) -> Result<bool, AllocError>
 
 /// The messages that have ended.
 fn is_ended(alloc: Global, table: &Table) -> Result<bool, AllocError>
-    ensures { IfOk result (λ same. IsTrue same → table.now ≡ table_of ended table.now.tree) }
+    ensures { IfOk result (λ same. IsTrue same ↔ (table.now ≡ table_of ended table.now.tree)) }
 {
     let others = [
         Kept::Whole(b"place"),
@@ -173,7 +173,7 @@ fn is_ended(alloc: Global, table: &Table) -> Result<bool, AllocError>
 
 /// Whether the table may stand beside the two: its form is one of these. A further form is one more function as those above, and one more line here.
 fn is_beside(alloc: Global, table: &Table) -> Result<bool, AllocError>
-    ensures { IfOk result (λ same. IsTrue same → IsBeside table.now) }
+    ensures { IfOk result (λ same. IsTrue same ↔ IsBeside table.now) }
 {
     if table.tree < FIRST_TREE {
         return Ok(false);
@@ -193,7 +193,7 @@ fn is_beside(alloc: Global, table: &Table) -> Result<bool, AllocError>
 /// Whether all of these tables may stand beside the two, in whatever order.
 #[tactic(auto, using(crate::proofs::BesideLemmas::all_more, crate::proofs::BesideLemmas::all_of))]
 pub(crate) fn are_beside(alloc: Global, tables: &[Table]) -> Result<bool, AllocError>
-    ensures { IfOk result (λ all. IsTrue all → AreBeside tables.now) }
+    ensures { IfOk result (λ all. IsTrue all ↔ AreBeside tables.now) }
 {
     if tables.len() > MOST_BESIDE {
         return Ok(false);

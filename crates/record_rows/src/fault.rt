@@ -9,7 +9,8 @@ pub enum Fault {
     Memory,
     /// The disk failed, or the statement was refused. The connection is open, and the tables are as they were.
     Undone,
-    /// The connection may be shut. Of its tables nothing is said until the file is opened again.
+    /// The connection refused even a statement that does nothing, or had no memory for it: it may be shut. Of its tables nothing is said until the file is
+    /// opened again.
     Shut,
 }
 

@@ -1,9 +1,11 @@
 //! Which of the two tables a database has.
 
-ghost use Rattle.std.specs.Prelude.{◌≡◌, [], ◌∷◌, IfOk, IsTrue};
+ghost use Rattle.std.specs.Prelude.{◌≡◌, ◌↔◌, [], ◌∷◌, pos, IfOk, IsTrue};
 ghost use Rattle.sqlite.specs.Held.{state};
 ghost use Rattle.record_rows.specs.Tables.{column_of, is_one, life_table, slots_table, slots_index};
-ghost use Rattle.record_rows.specs.Found.{IsFound, IsFoundIn, IsPlainTable};
+ghost use Rattle.record_rows.specs.Found.{HasFirstKey, HasSlotsKeys, IsFound, IsFoundIn, IsPlainTable};
+ghost use Rattle.sqlite_sql.specs.Syntax.{term_at, term_of, terms_of};
+ghost use Rattle.sqlite_sql.specs.Term.{col, lit};
 ghost use Rattle.sqlite_value.specs.Keys.{plain};
 
 use crate::beside::are_beside;
@@ -11,7 +13,7 @@ use sqlite::{Alter, Connection};
 use sqlite_items::Items;
 use sqlite_schema::code::Terms;
 use sqlite_schema::schema::{Column, Index, Kind, Schema, Table};
-use sqlite_sql::expr::Node;
+use sqlite_sql::expr::{Node, open};
 use sqlite_sql::ops::{BinaryOp, CompareOp};
 use sqlite_value::keys::{Collation, Order};
 use sqlite_value::value::{Value, ValueRef};
@@ -28,12 +30,12 @@ pub enum Found {
     LifeFirst,
     /// The same, and `slots` was made first.
     SlotsFirst,
-    /// It has another object, or a table of another form.
+    /// It is none of these: it has another object, or a table of another form, or such once stood there, so that the two stand in other trees.
     Foreign,
 }
 
 pub(crate) fn is_column(column: &Column, name: &[u8], kind: Kind, not_null: bool) -> bool
-    ensures { IsTrue result → column.now ≡ column_of name.now kind not_null }
+    ensures { IsTrue result ↔ (column.now ≡ column_of name.now kind not_null) }
 {
     column.name.as_slice() == name
         && column.kind == kind
@@ -44,7 +46,7 @@ pub(crate) fn is_column(column: &Column, name: &[u8], kind: Kind, not_null: bool
 }
 
 fn are_life_columns(columns: &[Column]) -> bool
-    ensures { IsTrue result → columns.now ≡ (life_table 0).columns }
+    ensures { IsTrue result ↔ (columns.now ≡ (life_table 0).columns) }
 {
     match columns {
         [one, incarnation] => is_column(one, b"one", Kind::Integer, false)
@@ -54,7 +56,7 @@ fn are_life_columns(columns: &[Column]) -> bool
 }
 
 fn are_slots_columns(columns: &[Column]) -> bool
-    ensures { IsTrue result → columns.now ≡ (slots_table 0).columns }
+    ensures { IsTrue result ↔ (columns.now ≡ (slots_table 0).columns) }
 {
     let [id, place, promised, voted, chain] = columns else {
         return false;
@@ -75,28 +77,60 @@ fn are_slots_columns(columns: &[Column]) -> bool
 }
 
 pub(crate) fn are_none(alloc: Global, terms: &Terms) -> Result<bool, AllocError>
-    ensures { IfOk result (λ none. IsTrue none → terms.now ≡ []) }
+    ensures { IfOk result (λ none. IsTrue none ↔ (terms.now ≡ [])) }
 {
     let lent = terms.lend(alloc)?;
     Ok(lent.roots.is_empty())
 }
 
+/// Whether the term at a place is the first column.
+fn is_first_column(nodes: &[Node<'_>], depth: usize, at: usize) -> bool
+    ensures { IsTrue result ↔ (term_at nodes.now depth at ≡ col 1 0) }
+{
+    let (node, _) = open(nodes, depth, at);
+    matches!(node, Node::Column(1, 0))
+}
+
+/// Whether it is the number 1.
+fn is_number_one(nodes: &[Node<'_>], depth: usize, at: usize) -> bool
+    ensures { IsTrue result ↔ (term_at nodes.now depth at ≡ lit (Value.Int (pos 1))) }
+{
+    let (node, _) = open(nodes, depth, at);
+    matches!(node, Node::Literal(ValueRef::Int(1)))
+}
+
+/// Whether it is the test that the first column is 1, in whatever order the nodes stand.
+fn is_test_of_one(nodes: &[Node<'_>], at: usize) -> bool
+    ensures { IsTrue result ↔ (term_of nodes.now at ≡ is_one) }
+{
+    let (node, depth) = open(nodes, nodes.len(), at);
+    match node {
+        Node::Binary(BinaryOp::Compare(CompareOp::Eq, Collation::Binary), left, right) => {
+            is_first_column(nodes, depth, left) && is_number_one(nodes, depth, right)
+        }
+        _ => false,
+    }
+}
+
+/// Whether this is the one term at these places.
+fn are_tests_of_one(nodes: &[Node<'_>], roots: &[usize]) -> bool
+    ensures { IsTrue result ↔ (terms_of nodes.now roots.now ≡ is_one ∷ []) }
+{
+    match roots {
+        [root] => is_test_of_one(nodes, *root),
+        _ => false,
+    }
+}
+
 pub(crate) fn is_check_of_one(alloc: Global, terms: &Terms) -> Result<bool, AllocError>
-    ensures { IfOk result (λ same. IsTrue same → terms.now ≡ is_one ∷ []) }
+    ensures { IfOk result (λ same. IsTrue same ↔ (terms.now ≡ is_one ∷ [])) }
 {
     let lent = terms.lend(alloc)?;
-    Ok(match lent.nodes.as_slice() {
-        [
-            Node::Column(1, 0),
-            Node::Literal(ValueRef::Int(1)),
-            Node::Binary(BinaryOp::Compare(CompareOp::Eq, Collation::Binary), 0, 1),
-        ] => matches!(lent.roots, [2]),
-        _ => false,
-    })
+    Ok(are_tests_of_one(lent.nodes.as_slice(), lent.roots))
 }
 
 pub(crate) fn are_plain(alloc: Global, table: &Table) -> Result<bool, AllocError>
-    ensures { IfOk result (λ plain. IsTrue plain → IsPlainTable table.now) }
+    ensures { IfOk result (λ plain. IsTrue plain ↔ IsPlainTable table.now) }
 {
     let stamps = are_none(alloc, &table.stamps.terms)?;
     Ok(
@@ -110,25 +144,21 @@ pub(crate) fn are_plain(alloc: Global, table: &Table) -> Result<bool, AllocError
 }
 
 fn is_named(table: &Table, name: &[u8], tree: u32) -> bool
-    ensures name { IsTrue result → table.now.name ≡ name.now }
-    ensures tree { IsTrue result → table.now.tree ≡ tree }
+    ensures { IsTrue result ↔ (table.now.name ≡ name.now) × (table.now.tree ≡ tree) }
 {
     table.name.as_slice() == name && table.tree == tree
 }
 
 /// Whether the rows stand under the integer in the first column, and there is no other key.
 pub(crate) fn has_first_key(table: &Table) -> bool
-    ensures key { IsTrue result → table.now.key ≡ Some 0 }
-    ensures primary { IsTrue result → table.now.primary ≡ 0 ∷ [] }
-    ensures uniques { IsTrue result → table.now.uniques ≡ [] }
-    ensures orders { IsTrue result → table.now.orders ≡ [] }
+    ensures { IsTrue result ↔ HasFirstKey table.now }
 {
     if table.key != Some(0) {
         return false;
     }
-    let [0] = table.primary.as_slice() else {
+    if table.primary.as_slice() != [0].as_slice() {
         return false;
-    };
+    }
     if !table.uniques.is_empty() {
         return false;
     }
@@ -137,7 +167,7 @@ pub(crate) fn has_first_key(table: &Table) -> bool
 
 #[tactic(auto, using(crate::proofs::TableLemmas::life_is))]
 fn is_life(alloc: Global, table: &Table, tree: u32) -> Result<bool, AllocError>
-    ensures { IfOk result (λ same. IsTrue same → table.now ≡ life_table tree) }
+    ensures { IfOk result (λ same. IsTrue same ↔ (table.now ≡ life_table tree)) }
 {
     if !is_check_of_one(alloc, &table.checks)? {
         return Ok(false);
@@ -155,13 +185,13 @@ fn is_life(alloc: Global, table: &Table, tree: u32) -> Result<bool, AllocError>
 }
 
 fn is_key(places: &[usize]) -> bool
-    ensures { IsTrue result → places.now ≡ 1 ∷ 2 ∷ [] }
+    ensures { IsTrue result ↔ (places.now ≡ 1 ∷ 2 ∷ []) }
 {
-    matches!(places, [1, 2])
+    places == [1, 2].as_slice()
 }
 
 fn are_slots_keys(uniques: &[Items<usize>], orders: &[Order]) -> bool
-    ensures { IsTrue result → (uniques.now ≡ (1 ∷ 2 ∷ []) ∷ []) × (orders.now ≡ plain ∷ []) }
+    ensures { IsTrue result ↔ (uniques.now ≡ (1 ∷ 2 ∷ []) ∷ []) × (orders.now ≡ plain ∷ []) }
 {
     match (uniques, orders) {
         ([key], [order]) => is_key(key.as_slice()) && order.digits == 0,
@@ -170,9 +200,7 @@ fn are_slots_keys(uniques: &[Items<usize>], orders: &[Order]) -> bool
 }
 
 fn has_slots_keys(table: &Table) -> bool
-    ensures key { IsTrue result → table.now.key ≡ None }
-    ensures primary { IsTrue result → table.now.primary ≡ 1 ∷ 2 ∷ [] }
-    ensures others { IsTrue result → (table.now.uniques ≡ (1 ∷ 2 ∷ []) ∷ []) × (table.now.orders ≡ plain ∷ []) }
+    ensures { IsTrue result ↔ HasSlotsKeys table.now }
 {
     if table.key.is_some() {
         return false;
@@ -185,7 +213,7 @@ fn has_slots_keys(table: &Table) -> bool
 
 #[tactic(auto, using(crate::proofs::TableLemmas::slots_is))]
 fn is_slots(alloc: Global, table: &Table, tree: u32) -> Result<bool, AllocError>
-    ensures { IfOk result (λ same. IsTrue same → table.now ≡ slots_table tree) }
+    ensures { IfOk result (λ same. IsTrue same ↔ (table.now ≡ slots_table tree)) }
 {
     if !are_none(alloc, &table.checks)? {
         return Ok(false);
@@ -204,7 +232,7 @@ fn is_slots(alloc: Global, table: &Table, tree: u32) -> Result<bool, AllocError>
 
 #[tactic(auto, using(crate::proofs::TableLemmas::index_is))]
 fn is_slots_index(index: &Index, table: u32, tree: u32) -> bool
-    ensures { IsTrue result → index.now ≡ slots_index table tree }
+    ensures { IsTrue result ↔ (index.now ≡ slots_index table tree) }
 {
     if index.name.as_slice() != b"sqlite_autoindex_slots_1".as_slice() {
         return false;
@@ -225,7 +253,7 @@ fn is_slots_index(index: &Index, table: u32, tree: u32) -> bool
 }
 
 fn are_slots_indexes(indexes: &[Index], table: u32, tree: u32) -> bool
-    ensures { IsTrue result → indexes.now ≡ slots_index table tree ∷ [] }
+    ensures { IsTrue result ↔ (indexes.now ≡ slots_index table tree ∷ []) }
 {
     let [index] = indexes else {
         return false;
@@ -236,11 +264,10 @@ fn are_slots_indexes(indexes: &[Index], table: u32, tree: u32) -> bool
 fn life_alone(alloc: Global, table: &Table) -> Result<Found, AllocError>
     ensures { IfOk result (λ found. IsFound found (table.now ∷ []) []) }
 {
-    if is_life(alloc, table, 0)? {
-        Ok(Found::LifeAlone)
-    } else {
-        Ok(Found::Foreign)
+    if !is_life(alloc, table, 0)? {
+        return Ok(Found::Foreign);
     }
+    Ok(Found::LifeAlone)
 }
 
 fn life_first(
@@ -316,6 +343,16 @@ fn together(
     slots_first(alloc, first, second, beside)
 }
 
+fn empty(indexes: &[Index]) -> Found
+    ensures { IsFound result [] indexes.now }
+{
+    if indexes.is_empty() {
+        Found::Neither
+    } else {
+        Found::Foreign
+    }
+}
+
 /// Which of the two tables the schema has.
 fn tables_in(alloc: Global, schema: &Schema) -> Result<Found, AllocError>
     ensures { IfOk result (IsFoundIn schema.now) }
@@ -325,10 +362,9 @@ fn tables_in(alloc: Global, schema: &Schema) -> Result<Found, AllocError>
     }
     let indexes = schema.indexes.as_slice();
     match schema.tables.as_slice() {
-        [] if indexes.is_empty() => Ok(Found::Neither),
+        [] => Ok(empty(indexes)),
         [table] => alone(alloc, table, indexes),
         [first, second, beside @ ..] => together(alloc, first, second, beside, indexes),
-        _ => Ok(Found::Foreign),
     }
 }
 

@@ -1,10 +1,10 @@
 -- What a database holds whose tables may be absent, and what making those leaves (own).
-use Rattle.std.specs.Prelude.{◌≡◌, ℕ, List, []}
+use Rattle.std.specs.Prelude.{◌≡◌, ℕ}
 use Rattle.mc_model.specs.synod.Acceptor.{Records, blank}
 use Rattle.sqlite.specs.Tree.{Trees}
 use Rattle.sqlite.specs.State.{State}
-use Rattle.sqlite.specs.Table.{Table}
 use Rattle.record_rows.specs.Beside.{AreBeside}
+use Rattle.record_rows.specs.Found.{those_beside}
 use Rattle.record_rows.specs.Ours.{IsOurs}
 use Rattle.record_rows.specs.Tables.{Layout, Present, life_first, slots_first, neither, life_alone, slots_alone, both, schema_in}
 use Rattle.stable_store.specs.Stored.{AreSame}
@@ -32,13 +32,6 @@ layout_in neither = life_first
 layout_in life_alone = life_first
 layout_in slots_alone = slots_first
 layout_in (both layout beside) = layout
-
--- which tables stand beside the two
-abbrev pub those_beside : Present → List Table
-those_beside neither = []
-those_beside life_alone = []
-those_beside slots_alone = []
-those_beside (both layout beside) = beside
 
 -- the database has these of the two tables, and beside them none but such as may stand there
 pub record IsPresent (present : Present) (s : State) : Type 0 where
