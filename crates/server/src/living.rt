@@ -215,9 +215,12 @@ fn begin_anew<S: StableStore, L: Begins, R: Wait + Eprint + Clock>(
             incarnation.number()
         ),
     );
+    let mut site = station.site.lock(rt);
+    site.lanes.clear();
     if let Ok(id) = MsgId::make(station.node, incarnation, 1) {
-        station.site.lock(rt).refuse_waiting(rt, id);
+        site.refuse_waiting(rt, id);
     }
+    drop(site);
     station.serials.store(0, Ordering::SeqCst);
     station.has_ticked.store(false, Ordering::SeqCst);
     station.has_begun.store(false, Ordering::SeqCst);

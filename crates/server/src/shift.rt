@@ -8,11 +8,12 @@ use crate::station::Station;
 use crate::trouble::Trouble;
 use mc_types::{MsgId, NodeNo};
 use node_workers::{Begins, Life, Seat};
+use pdu_codec::SystemId;
 use stable_store::StableStore;
 use std::rt::Clock;
 use std::sync::Wait;
 
-/// How many messages are looked at behind a delivery: it frees one place, and a tick looks at all of them.
+/// How many messages a tick looks at that wait nowhere: few are lost so.
 pub(crate) const FEW_LOOKS: usize = 1_000;
 
 /// More than a node has messages.
@@ -100,34 +101,90 @@ impl<S: StableStore, L: Begins, R: Wait + Eprint + Clock> Shift<'_, S, L, R> {
         self.shared.seats.give_back(self.rt, seat);
     }
 
-    /// Has the workers of a node deliver what may be granted there, as far as sessions have places and no delivery is held back. It goes on where it stopped the
-    /// last time, behind the last message from the first on again, and looks at so many messages at most. A refusal is told.
+    /// Has the workers of a node deliver what waits there, and then what may be granted and does not wait, as far as sessions have places and no delivery is held
+    /// back. It goes on where it stopped the last time, behind the last message from the first on again, and looks at so many messages at most. A refusal is told.
     pub(crate) fn feed(&self, site: &mut Site, most: usize) -> Result<(), Trouble> {
         if self.holds() {
             return Ok(());
         }
+        site.lanes.tidy();
+        for place in 0..site.lanes.len() {
+            self.feed_lane(site, place)?;
+        }
+        self.look(site, most)
+    }
+
+    /// Has workers deliver what waits for the account of a session, of which one is free. A refusal is told.
+    pub(crate) fn feed_session(&self, site: &mut Site, number: u8) -> Result<(), Trouble> {
+        if self.holds() {
+            return Ok(());
+        }
+        let Some(account) = site.service.account(number) else {
+            return Ok(());
+        };
+        let account = account.copy()?;
+        self.feed_account(site, &account)
+    }
+
+    /// Has workers deliver what waits for an account.
+    fn feed_account(&self, site: &mut Site, account: &SystemId) -> Result<(), Trouble> {
+        for place in 0..site.lanes.len() {
+            if site.lanes.goes_to(place, account) {
+                self.feed_lane(site, place)?;
+            }
+        }
+        Ok(())
+    }
+
+    /// Has workers deliver what waits in a lane, up to the first message for which none is free.
+    fn feed_lane(&self, site: &mut Site, place: usize) -> Result<(), Trouble> {
+        for _ in 0..ALL_LOOKS {
+            let Some(id) = site.lanes.first(place) else {
+                break;
+            };
+            if !self.need_not_wait(site, id)? {
+                break;
+            }
+            site.lanes.take_off(place);
+        }
+        Ok(())
+    }
+
+    /// Has a worker deliver a message that waited; whether it need not wait any more, since one does, or since it is not to be delivered now.
+    fn need_not_wait(&self, site: &mut Site, id: MsgId) -> Result<bool, Trouble> {
+        if site.carries(id) {
+            return Ok(true);
+        }
+        match self.shared.cluster.attempt(self.rt, self.node(), id)? {
+            Some(attempt) => Ok(site.offer_again(self.rt, &attempt)?),
+            None => Ok(true),
+        }
+    }
+
+    /// Looks for messages that may be granted and that do not wait.
+    fn look(&self, site: &mut Site, most: usize) -> Result<(), Trouble> {
         let mut ends = 0;
         for _ in 0..most {
             if ends > 1 || !site.has_place() {
                 break;
             }
-            if !self.feed_one(site)? {
+            if !self.look_at_one(site)? {
                 ends += 1;
             }
         }
         Ok(())
     }
 
-    /// Has a worker deliver the next message that may be granted, if a session of its account has a place, and no one does so already. `false` if none is left:
-    /// the first one comes next then.
-    fn feed_one(&self, site: &mut Site) -> Result<bool, Trouble> {
+    /// Has a worker deliver the next message that may be granted, or lets it wait, unless it is delivered or waits already. `false` if none is left: the first one
+    /// comes next then.
+    fn look_at_one(&self, site: &mut Site) -> Result<bool, Trouble> {
         let cluster = &self.shared.cluster;
         let Some(id) = cluster.grantable_after(self.rt, self.node(), site.fed())? else {
             site.feed_from(None);
             return Ok(false);
         };
         site.feed_from(Some(id));
-        if site.carries(id) {
+        if site.carries(id) || site.lanes.has(id) {
             return Ok(true);
         }
         if let Some(attempt) = cluster.attempt(self.rt, self.node(), id)? {

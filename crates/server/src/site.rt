@@ -5,6 +5,7 @@ ghost use Rattle.std.specs.Prelude.{◌≡◌};
 use crate::berth::Berth;
 use crate::carriage::Carriage;
 use crate::connection::Connection;
+use crate::lanes::Lanes;
 use crate::notice::{Reason, Whom};
 use crate::starting::Arrival;
 use connection_parts::{Job, Tally};
@@ -30,6 +31,7 @@ pub(crate) struct Site {
     pub(crate) service: Service,
     connections: BTreeMap<u8, Arc<Connection>>,
     carried: BTreeMap<u64, Carriage>,
+    pub(crate) lanes: Lanes,
     // Behind which message those come that are looked at next for a delivery; none, if they begin with the first.
     fed: Option<MsgId>,
     clock: Moment,
@@ -44,6 +46,7 @@ impl Site {
             service: Service::none(alloc),
             connections: BTreeMap::new(alloc),
             carried: BTreeMap::new(alloc),
+            lanes: Lanes::none(alloc),
             fed: None,
             clock,
             tally: Tally::zero(),
@@ -256,27 +259,48 @@ impl Site {
         false
     }
 
-    /// An attempt may be granted: it is given to a worker of the lowest numbered session of its account that has a place in its window. Nothing comes of it if
-    /// no session has. A text that is too long for a short_message needs a session that knows optional parameters; if the account has none, any
-    /// session gets it, whose worker lets it fail. An `Err` is want of memory.
+    /// An attempt may be granted: it is given to a worker, unless others of its kind wait for its account, or no worker is free; then it waits, too. An `Err` is
+    /// want of memory.
     pub(crate) fn offer<R: Wait>(&mut self, rt: &R, attempt: Attempt) -> Result<(), AllocError> {
         let Attempt {
             slot,
             account,
             long,
         } = attempt;
-        let needs_optional = long && self.knows_optional(&account);
+        if !self.lanes.holds(&account, long) && self.deliver(rt, slot, &account, long)? {
+            drop(account);
+            return Ok(());
+        }
+        self.lanes.put(account, long, slot.id)
+    }
+
+    /// An attempt that waited is given to a worker; whether one is free.
+    pub(crate) fn offer_again<R: Wait>(&mut self, rt: &R, attempt: &Attempt) -> Result<bool, AllocError> {
+        self.deliver(rt, attempt.slot, &attempt.account, attempt.long)
+    }
+
+    /// Gives the attempt in a slot to a worker of the lowest numbered session of its account that has a place in its window; whether one is free. A text that is
+    /// too long for a short_message needs a session that knows optional parameters; if the account has none, any session gets it, whose worker lets it fail. An
+    /// `Err` is want of memory.
+    fn deliver<R: Wait>(
+        &mut self,
+        rt: &R,
+        slot: Slot,
+        account: &SystemId,
+        long: bool,
+    ) -> Result<bool, AllocError> {
+        let needs_optional = long && self.knows_optional(account);
         let Some(pushed) = self
             .service
-            .push(&account, needs_optional, self.clock, slot)
+            .push(account, needs_optional, self.clock, slot)
         else {
-            return Ok(());
+            return Ok(false);
         };
         let is_given = self.give(rt, Job { slot, pushed, long });
         if !matches!(is_given, Ok(true)) {
             self.service.take_back(pushed.number, pushed.sequence);
         }
-        is_given.map(|_| ())
+        is_given
     }
 
     /// Gives a delivery to a worker of its session that is free; whether one is. It is noted first, so that its answer finds it. An `Err` is want of memory,

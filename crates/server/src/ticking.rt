@@ -1,7 +1,7 @@
 //! The ticks of a node.
 
 use crate::ending::Ending;
-use crate::shift::{ALL_LOOKS, Shift};
+use crate::shift::{FEW_LOOKS, Shift};
 use crate::trouble::Trouble;
 use connection_parts::moment_at;
 use mc_types::Moment;
@@ -270,5 +270,5 @@ fn tick<S: StableStore, L: Begins, R: Wait + Eprint + Clock>(
     if seconds > 0 {
         site.lose_unbound(shift.rt, seconds);
     }
-    shift.feed(site, ALL_LOOKS)
+    shift.feed(site, FEW_LOOKS)
 }

@@ -5,7 +5,7 @@ ghost use Rattle.std.specs.Prelude.{◌≡◌};
 use crate::berth::Berth;
 use crate::connection::Connection;
 use crate::gate::BerthGate;
-use crate::shift::{FEW_LOOKS, Shift};
+use crate::shift::Shift;
 use crate::trouble::Trouble;
 use connection_parts::Job;
 use node_workers::{Begins, Heard, Home, Seat, tried};
@@ -91,7 +91,7 @@ fn free<S: StableStore, L: Begins, R: Wait + Eprint + Clock>(
     let mut guard = shift.station.site.lock(shift.rt);
     let site = &mut *guard;
     site.delivered(connection, job, is_sent);
-    shift.feed(site, FEW_LOOKS)
+    shift.feed_session(site, job.pushed.number)
 }
 
 /// The packets that the last step of a seat sent are handed in to all nodes.
