@@ -5,18 +5,67 @@ use pdu_codec::SystemId;
 use std::alloc::{AllocError, Global};
 use std::collections::{BTreeSet, VecDeque};
 
-/// Messages that go to one account, all of them too long for a short_message, or none; the first came first.
+/// A message that waits, and how many have come to wait before it.
+#[derive(Clone, Copy, Debug, PartialEq, Eq)]
+struct Waiter {
+    id: MsgId,
+    turn: u64,
+}
+
+/// Messages that go to one account: in each queue the first came first.
 #[derive(Drop)]
 struct Lane {
     account: SystemId,
-    long: bool,
-    ids: VecDeque<MsgId>,
+    // Those whose text is too long for a short_message, which need a session that knows optional parameters.
+    long: VecDeque<Waiter>,
+    short: VecDeque<Waiter>,
 }
 
 impl Lane {
-    /// Whether messages of this kind for this account wait here.
-    fn is_of(&self, account: &SystemId, long: bool) -> bool {
-        self.long == long && self.account == *account
+    /// None waits for this account.
+    fn empty(alloc: Global, account: SystemId) -> Lane {
+        Lane {
+            account,
+            long: VecDeque::new(alloc),
+            short: VecDeque::new(alloc),
+        }
+    }
+
+    /// Those of a kind.
+    fn queue(&self, long: bool) -> &VecDeque<Waiter> {
+        if long { &self.long } else { &self.short }
+    }
+
+    /// A message comes behind the others of its kind. An `Err` is want of memory.
+    fn put(&mut self, long: bool, waiter: Waiter) -> Result<(), AllocError> {
+        if long {
+            self.long.push_back(waiter)?;
+        } else {
+            self.short.push_back(waiter)?;
+        }
+        Ok(())
+    }
+
+    /// The first of a kind waits no more.
+    fn take_off(&mut self, long: bool) -> Option<Waiter> {
+        if long {
+            self.long.pop_front()
+        } else {
+            self.short.pop_front()
+        }
+    }
+
+    /// Whether the one that came first of all has a long text.
+    fn begins_long(&self) -> bool {
+        match (self.long.front(), self.short.front()) {
+            (Some(long), Some(short)) => long.turn < short.turn,
+            (long, _) => long.is_some(),
+        }
+    }
+
+    /// Whether none waits.
+    fn is_empty(&self) -> bool {
+        self.long.is_empty() && self.short.is_empty()
     }
 }
 
@@ -25,9 +74,12 @@ impl Lane {
 #[derive(Drop)]
 pub(crate) struct Lanes {
     alloc: Global,
+    // No two of one account.
     lanes: Vec<Lane>,
-    // The numbers of all that wait.
+    // The numbers of all that wait, each in one queue of one lane.
     waiting: BTreeSet<u64>,
+    // How many have come to wait.
+    turns: u64,
 }
 
 impl Lanes {
@@ -37,6 +89,7 @@ impl Lanes {
             alloc,
             lanes: Vec::new(alloc),
             waiting: BTreeSet::new(alloc),
+            turns: 0,
         }
     }
 
@@ -50,37 +103,43 @@ impl Lanes {
         self.waiting.contains(&id.number())
     }
 
-    /// Whether the messages of a lane go to this account.
-    pub(crate) fn goes_to(&self, place: usize, account: &SystemId) -> bool {
-        match self.lanes.get(place) {
-            Some(lane) => lane.account == *account,
-            None => false,
-        }
+    /// Where messages for this account wait, if some do or did.
+    pub(crate) fn place_of(&self, account: &SystemId) -> Option<usize> {
+        self.lanes.iter().position(|lane| lane.account == *account)
     }
 
     /// Whether messages of this kind wait for this account.
     pub(crate) fn holds(&self, account: &SystemId, long: bool) -> bool {
-        match self.place_of(account, long) {
-            Some(place) => self.first(place).is_some(),
+        match self.place_of(account) {
+            Some(place) => self.first(place, long).is_some(),
             None => false,
         }
     }
 
-    /// The message that waits longest in a lane.
-    pub(crate) fn first(&self, place: usize) -> Option<MsgId> {
-        self.lanes.get(place)?.ids.front().copied()
+    /// The first message of a kind in a lane.
+    pub(crate) fn first(&self, place: usize, long: bool) -> Option<MsgId> {
+        let waiter = self.lanes.get(place)?.queue(long).front()?;
+        Some(waiter.id)
     }
 
-    /// The message that waited longest in a lane waits no more.
-    pub(crate) fn take_off(&mut self, place: usize) {
-        if let Some(lane) = self.lanes.get_mut(place)
-            && let Some(id) = lane.ids.pop_front()
-        {
-            let _ = self.waiting.remove(&id.number());
+    /// Whether the message that came first to a lane has a long text.
+    pub(crate) fn begins_long(&self, place: usize) -> bool {
+        match self.lanes.get(place) {
+            Some(lane) => lane.begins_long(),
+            None => false,
         }
     }
 
-    /// A message waits behind the others of its kind for its account, unless it waits already. An `Err` is want of memory.
+    /// The first message of a kind in a lane waits no more.
+    pub(crate) fn take_off(&mut self, place: usize, long: bool) {
+        if let Some(lane) = self.lanes.get_mut(place)
+            && let Some(waiter) = lane.take_off(long)
+        {
+            let _ = self.waiting.remove(&waiter.id.number());
+        }
+    }
+
+    /// A message waits behind the others of its kind for its account, unless it waits already. An `Err` is want of memory, and then it does not.
     pub(crate) fn put(
         &mut self,
         account: SystemId,
@@ -91,37 +150,40 @@ impl Lanes {
             drop(account);
             return Ok(());
         }
-        let place = self.lane_for(account, long)?;
-        if let Some(lane) = self.lanes.get_mut(place) {
-            lane.ids.push_back(id)?;
-        }
+        let place = self.lane_for(account)?;
         let _ = self.waiting.insert(id.number())?;
+        let is_put = self.line_up(place, long, id);
+        if is_put.is_err() {
+            let _ = self.waiting.remove(&id.number());
+        }
+        is_put
+    }
+
+    /// A message comes behind the others of its kind in a lane. An `Err` is want of memory.
+    fn line_up(&mut self, place: usize, long: bool, id: MsgId) -> Result<(), AllocError> {
+        let turn = self.turns;
+        let Some(lane) = self.lanes.get_mut(place) else {
+            return Err(AllocError);
+        };
+        lane.put(long, Waiter { id, turn })?;
+        self.turns = turn.saturating_add(1);
         Ok(())
     }
 
-    /// Where messages of this kind wait for this account, from now on.
-    fn lane_for(&mut self, account: SystemId, long: bool) -> Result<usize, AllocError> {
-        if let Some(place) = self.place_of(&account, long) {
+    /// Where messages for this account wait, from now on.
+    fn lane_for(&mut self, account: SystemId) -> Result<usize, AllocError> {
+        if let Some(place) = self.place_of(&account) {
             drop(account);
             return Ok(place);
         }
         let place = self.lanes.len();
-        self.lanes.push(Lane {
-            account,
-            long,
-            ids: VecDeque::new(self.alloc),
-        })?;
+        self.lanes.push(Lane::empty(self.alloc, account))?;
         Ok(place)
-    }
-
-    /// Where messages of this kind wait for this account, if there is such a lane.
-    fn place_of(&self, account: &SystemId, long: bool) -> Option<usize> {
-        self.lanes.iter().position(|lane| lane.is_of(account, long))
     }
 
     /// Lanes in which none waits are gone.
     pub(crate) fn tidy(&mut self) {
-        self.lanes.retain(|lane| !lane.ids.is_empty());
+        self.lanes.retain(|lane| !lane.is_empty());
     }
 
     /// None waits any more.

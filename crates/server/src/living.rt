@@ -76,7 +76,7 @@ fn live<
         start_packets(&shift, scope);
         tick_first(&shift);
         start_ticks(&shift, scope);
-        feed_first(&shift);
+        look_first(&shift);
         attend_all(&shift, scope);
         end_life(&shift);
     });
@@ -101,11 +101,12 @@ fn attend_all<
     }
 }
 
-/// What may be granted is delivered as the life begins.
-fn feed_first<S: StableStore, L: Begins, R: Wait + Eprint + Clock>(shift: &Shift<'_, S, L, R>) {
+/// All that may be granted as the life begins is looked at: it is delivered once workers are there.
+fn look_first<S: StableStore, L: Begins, R: Wait + Eprint + Clock>(shift: &Shift<'_, S, L, R>) {
     let mut guard = shift.station.site.lock(shift.rt);
     let site = &mut *guard;
-    if let Err(trouble) = shift.feed(site, ALL_LOOKS) {
+    site.feed_from(None);
+    if let Err(trouble) = shift.look(site, ALL_LOOKS) {
         shift.meet(trouble);
     }
 }

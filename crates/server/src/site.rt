@@ -32,7 +32,7 @@ pub(crate) struct Site {
     connections: BTreeMap<u8, Arc<Connection>>,
     carried: BTreeMap<u64, Carriage>,
     pub(crate) lanes: Lanes,
-    // Behind which message those come that are looked at next for a delivery; none, if they begin with the first.
+    // Behind which message those come that are looked at next; none if no look is under way.
     fed: Option<MsgId>,
     clock: Moment,
     pub(crate) tally: Tally,
@@ -239,60 +239,50 @@ impl Site {
         self.carried.contains_key(&id.number())
     }
 
-    /// Behind which message those come that are looked at next for a delivery; none, if they begin with the first.
+    /// Behind which message those come that are looked at next; none if no look is under way.
     pub(crate) fn fed(&self) -> Option<MsgId> {
         self.fed
     }
 
-    /// Those behind this message are looked at next for a delivery; all, from the first on, if it is none.
+    /// Those behind this message are looked at next; if it is none, the look is over, and the next one begins with the first.
     pub(crate) fn feed_from(&mut self, fed: Option<MsgId>) {
         self.fed = fed;
     }
 
-    /// Whether some session may receive and has a place for a deliver_sm in its window.
-    pub(crate) fn has_place(&self) -> bool {
-        for (_, session) in self.service.sessions() {
-            if session.push_refusal().is_none() {
-                return true;
-            }
-        }
-        false
+    /// Whether a delivery of a message is under way, or it waits for one.
+    pub(crate) fn sees_to(&self, id: MsgId) -> bool {
+        self.carries(id) || self.lanes.has(id)
     }
 
-    /// An attempt may be granted: it is given to a worker, unless others of its kind wait for its account, or no worker is free; then it waits, too. An `Err` is
-    /// want of memory.
-    pub(crate) fn offer<R: Wait>(&mut self, rt: &R, attempt: Attempt) -> Result<(), AllocError> {
+    /// Where messages for the account of a session wait, if some do or did.
+    pub(crate) fn lane_of(&self, number: u8) -> Option<usize> {
+        self.lanes.place_of(self.service.account(number)?)
+    }
+
+    /// An attempt may be granted: it waits for a worker. An `Err` is want of memory.
+    pub(crate) fn keep(&mut self, attempt: Attempt) -> Result<(), AllocError> {
         let Attempt {
             slot,
             account,
             long,
         } = attempt;
-        if !self.lanes.holds(&account, long) && self.deliver(rt, slot, &account, long)? {
-            drop(account);
-            return Ok(());
-        }
         self.lanes.put(account, long, slot.id)
     }
 
-    /// An attempt that waited is given to a worker; whether one is free.
-    pub(crate) fn offer_again<R: Wait>(&mut self, rt: &R, attempt: &Attempt) -> Result<bool, AllocError> {
-        self.deliver(rt, attempt.slot, &attempt.account, attempt.long)
-    }
-
-    /// Gives the attempt in a slot to a worker of the lowest numbered session of its account that has a place in its window; whether one is free. A text that is
-    /// too long for a short_message needs a session that knows optional parameters; if the account has none, any session gets it, whose worker lets it fail. An
-    /// `Err` is want of memory.
-    fn deliver<R: Wait>(
+    /// Gives an attempt to a worker of the lowest numbered session of its account that has a place in its window; whether one is free. A text that is too long
+    /// for a short_message needs a session that knows optional parameters; if the account has none, any session gets it, whose worker lets it fail. An `Err` is
+    /// want of memory, and nothing is given.
+    pub(crate) fn deliver<R: Wait>(
         &mut self,
         rt: &R,
-        slot: Slot,
-        account: &SystemId,
-        long: bool,
+        attempt: &Attempt,
     ) -> Result<bool, AllocError> {
-        let needs_optional = long && self.knows_optional(account);
+        let slot = attempt.slot;
+        let long = attempt.long;
+        let needs_optional = long && self.knows_optional(&attempt.account);
         let Some(pushed) = self
             .service
-            .push(account, needs_optional, self.clock, slot)
+            .push(&attempt.account, needs_optional, self.clock, slot)
         else {
             return Ok(false);
         };
