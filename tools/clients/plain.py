@@ -296,6 +296,26 @@ class Plain:
         print(f"   200 messages in {time.monotonic() - begun:.1f} s", flush=True)
         esme.unbind()
 
+    def two_sessions(self):
+        """What waits for a session that answers nothing goes out over another one of its account, as soon as that is bound; and the first then answers, too."""
+        slow = self.bound("many")
+        slow.status = None
+        texts = [b"%d of two" % number for number in range(WINDOW + 5)]
+        for text in texts:
+            self.main.submitted(MANY, text, registered=0)
+        self.both(slow, lambda: len(slow.messages()) >= WINDOW, 10)
+        self.main.wait(lambda: False, 2)
+        quick = self.bound("many")
+        wait([self.main, slow, quick], lambda: len(quick.messages()) >= 5, 3)
+        self.check("what_waits_goes_to_another_session", len(quick.messages()) == 5, lambda: (len(slow.messages()), len(quick.messages())))
+        for one in slow.messages():
+            slow.send(pdus.frame(pdus.DELIVER_SM | pdus.RESPONSE, one["sequence"], b"\0"))
+        wait([self.main, slow, quick], lambda: False, 2)
+        came = sorted(one["short_message"] for one in slow.messages() + quick.messages())
+        self.check("each_comes_over_one_session", came == sorted(texts), came)
+        slow.unbind()
+        quick.unbind()
+
     def never_reads(self):
         """A peer that asks without an end and reads nothing has to wait in the end; the node serves others meanwhile, and ends it."""
         flooder = self.connected(3, receive_buffer=4096)
@@ -396,8 +416,8 @@ class Plain:
 
 
 PARTS = (Plain.silence, Plain.vanish, Plain.full_account, Plain.before_bind, Plain.roles, Plain.window, Plain.pieces, Plain.wrong_lengths, Plain.longest,
-         Plain.older_version, Plain.answers_of_all_kinds, Plain.two_hundred, Plain.never_reads, Plain.places, Plain.silence_ends, Plain.full_account_goes_on,
-         Plain.vanished_one_returns, Plain.ends)
+         Plain.older_version, Plain.answers_of_all_kinds, Plain.two_hundred, Plain.two_sessions, Plain.never_reads, Plain.places, Plain.silence_ends,
+         Plain.full_account_goes_on, Plain.vanished_one_returns, Plain.ends)
 
 
 def out_of_time(*_):

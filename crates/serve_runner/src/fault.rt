@@ -104,8 +104,18 @@ impl fmt::Display for ServeFault {
                 let number = node.number();
                 write!(f, "node {number} can't be started anew: its store failed")
             }
+            ServeFault::Ended(Ending::Spent(node)) => {
+                let number = node.number();
+                write!(
+                    f,
+                    "node {number} can't be started anew: no incarnation is left"
+                )
+            }
             ServeFault::Ended(Ending::Threads) => {
                 f.write_str("a thread can't be started, or there was not enough memory for one")
+            }
+            ServeFault::Ended(Ending::NoPart) => {
+                f.write_str("there was not enough memory to begin the next part of the journal")
             }
             ServeFault::Journal => f.write_str("the journal can't be closed"),
         }

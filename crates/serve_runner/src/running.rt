@@ -125,11 +125,11 @@ fn ended(served: Served<NodeStore>) -> Result<u64, ServeFault> {
         journal,
         ..
     } = served;
-    if journal.is_none() {
-        return Err(ServeFault::Journal);
-    }
+    let is_closed = journal.is_some();
     drop(journal);
     match ending {
+        Ending::NoPart => Err(ServeFault::Ended(ending)),
+        _ if !is_closed => Err(ServeFault::Journal),
         Ending::Asked => Ok(entries),
         other => Err(ServeFault::Ended(other)),
     }

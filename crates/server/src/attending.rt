@@ -6,10 +6,11 @@ use crate::inbox::Next;
 use crate::notice::{Notice, Reason};
 use crate::shift::Shift;
 use crate::starting::{Arrival, start_workers};
+use crate::trouble::Trouble;
 use node_workers::{Begins, Seat};
 use stable_store::StableStore;
 use std::rt::Clock;
-use std::sync::{Arc, Wait};
+use std::sync::Wait;
 use std::thread::{Scope, Threads};
 
 /// Serves the session of a connection, until it ends or the life of its node does. In the latter case it goes on in the next one.
@@ -20,18 +21,16 @@ pub(crate) fn attend<
     L: Begins + Send + Sync,
     R: Threads + Wait + Eprint + Clock + Sync,
 >(shift: &Shift<'s, S, L, R>, scope: &'s Scope<'s, E>, arrival: &Arrival) {
-    let connection = &arrival.connection;
-    let number = arrival.number;
     let reason = match shift.seat() {
         Some(mut seat) => {
-            let reason = attend_on(shift, scope, connection, number, &mut seat);
+            let reason = attend_on(shift, scope, arrival, &mut seat);
             shift.give_back(seat);
             reason
         }
         None => Some(Reason::NoMemory),
     };
     if let Some(reason) = reason {
-        end(shift, number, reason);
+        end(shift, arrival.number, reason);
     }
 }
 
@@ -45,13 +44,14 @@ fn attend_on<
 >(
     shift: &Shift<'s, S, L, R>,
     scope: &'s Scope<'s, E>,
-    connection: &Arc<Connection>,
-    number: u8,
+    arrival: &Arrival,
     seat: &mut Seat<L>,
 ) -> Option<Reason> {
+    let connection = &arrival.connection;
+    let number = arrival.number;
     let mut is_receiver = may_receive(shift, number);
     for _ in shift.rt.forever() {
-        if is_receiver && start_workers(shift, scope, connection).is_err() {
+        if is_receiver && start_workers(shift, scope, arrival).is_err() {
             return Some(Reason::NoThread);
         }
         connection.wait_to_serve(shift.rt);
@@ -142,7 +142,21 @@ pub(crate) fn end<S: StableStore, L: Begins, R: Wait + Eprint + Clock>(
     reason: Reason,
 ) {
     let whom = shift.station.site.lock(shift.rt).whom(shift.rt, number);
-    shift.station.site.lock(shift.rt).leave(shift.rt, number);
+    if let Err(trouble) = leave(shift, number) {
+        shift.meet(trouble);
+    }
     shift.tell_of(number, Notice::Ended(reason), whom);
     shift.shared.house.count_end(shift.rt);
+}
+
+/// A session leaves: what waits for its account goes to others of it that have places.
+fn leave<S: StableStore, L: Begins, R: Wait + Eprint + Clock>(
+    shift: &Shift<'_, S, L, R>,
+    number: u8,
+) -> Result<(), Trouble> {
+    let mut guard = shift.station.site.lock(shift.rt);
+    let site = &mut *guard;
+    let place = site.lane_of(number);
+    site.leave(shift.rt, number);
+    shift.feed_at(site, place)
 }

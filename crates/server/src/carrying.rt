@@ -79,14 +79,10 @@ fn carry<S: StableStore, L: Begins, R: Wait + Eprint + Clock>(
     let mut guard = shift.station.site.lock(shift.rt);
     let site = &mut *guard;
     site.tell(shift.rt, outputs)?;
-    if let Some(id) = chosen
-        && !shift.holds()
-        && !site.carries(id)
-        && let Some(attempt) = shift.shared.cluster.attempt(shift.rt, node, id)?
-    {
-        site.offer(shift.rt, attempt)?;
+    match chosen {
+        Some(id) => shift.hear_of(site, id),
+        None => Ok(()),
     }
-    Ok(())
 }
 
 /// The message of which an attempt may have been chosen by a step: that of the vote that came.

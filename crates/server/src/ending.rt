@@ -10,10 +10,14 @@ pub enum Ending {
     Asked,
     /// The journal is full.
     Full,
-    /// This node can't be started anew.
+    /// This node can't be started anew: its store failed.
     Lost(NodeNo),
+    /// This node can't be started anew: it has begun its last incarnation.
+    Spent(NodeNo),
     /// A thread can't be started, or there was no memory for one.
     Threads,
+    /// There was no memory to begin the next part of the journal.
+    NoPart,
 }
 
 /// Why the server ends, once it does: the first reason stays.

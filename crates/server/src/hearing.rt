@@ -8,7 +8,7 @@ use desk::Request;
 use esme_service::{Asked, Heard};
 use node_workers::{Action, Begins, Seat};
 use pdu_tables::Status;
-use sessions::{Outgoing, Requested, Response};
+use sessions::{Delivery, Outgoing, Requested, Response};
 use stable_store::StableStore;
 use std::alloc::AllocError;
 use std::rt::Clock;
@@ -69,9 +69,21 @@ pub(crate) fn heed<S: StableStore, L: Begins, R: Wait + Eprint + Clock>(
     let heard = site
         .service
         .hear(&shift.shared.house.config, number, frame)?;
+    let frees_place = answers_receipt(&heard);
     let heeded = heed_heard(shift, site, seat, number, heard)?;
     site.post_on(shift.rt, number)?;
+    if frees_place && let Err(trouble) = shift.feed_session(site, number) {
+        shift.meet(trouble);
+    }
     Ok(heeded.named(frame))
+}
+
+/// Whether an ESME answered to a receipt. Its place in the window is free then, and no worker is through with a delivery.
+fn answers_receipt(heard: &Heard) -> bool {
+    match heard {
+        Heard::Answer(pushed, _) => matches!(pushed.delivery, Delivery::Receipt(_)),
+        _ => false,
+    }
 }
 
 /// Octets came on a session whose length is not that of a PDU: it is gone.

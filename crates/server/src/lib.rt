@@ -11,6 +11,7 @@ mod gate;
 mod hearing;
 mod house;
 mod inbox;
+mod lanes;
 mod listening;
 mod living;
 mod log;

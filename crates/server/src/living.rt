@@ -1,6 +1,7 @@
 //! A node of the server, in one life after another.
 
 use crate::ending::Ending;
+use crate::house::House;
 use crate::notice::Reason;
 use crate::shared::Shared;
 use crate::shift::{ALL_LOOKS, Shift};
@@ -17,8 +18,12 @@ use std::thread;
 use std::thread::{Scope, Threads};
 use std::time::Duration;
 
-/// How often it is looked whether all sessions of a node have ended, 50 milliseconds apart, before they are cut: for a second.
+/// How often it is looked, 50 milliseconds apart, whether all sessions of a node have ended, before they are cut, or whether a node that found no memory for its
+/// start anew is to wait no more: for a second.
 const LOOKS: u32 = 20;
+
+/// How long it is slept between two of these looks, in milliseconds.
+const LOOK: u64 = 50;
 
 /// How often it is looked whether somebody connected, in milliseconds.
 const PAUSE: u64 = 10;
@@ -76,7 +81,7 @@ fn live<
         start_packets(&shift, scope);
         tick_first(&shift);
         start_ticks(&shift, scope);
-        feed_first(&shift);
+        look_first(&shift);
         attend_all(&shift, scope);
         end_life(&shift);
     });
@@ -101,11 +106,12 @@ fn attend_all<
     }
 }
 
-/// What may be granted is delivered as the life begins.
-fn feed_first<S: StableStore, L: Begins, R: Wait + Eprint + Clock>(shift: &Shift<'_, S, L, R>) {
+/// All that may be granted as the life begins is looked at: it is delivered once workers are there.
+fn look_first<S: StableStore, L: Begins, R: Wait + Eprint + Clock>(shift: &Shift<'_, S, L, R>) {
     let mut guard = shift.station.site.lock(shift.rt);
     let site = &mut *guard;
-    if let Err(trouble) = shift.feed(site, ALL_LOOKS) {
+    site.feed_from(None);
+    if let Err(trouble) = shift.look(site, ALL_LOOKS) {
         shift.meet(trouble);
     }
 }
@@ -148,7 +154,7 @@ fn end_sessions<S: StableStore, L: Begins, R: Wait + Eprint + Clock>(shift: &Shi
         if shift.station.site.lock(shift.rt).is_empty() {
             break;
         }
-        thread::sleep(shift.rt, Duration::from_millis(50));
+        thread::sleep(shift.rt, Duration::from_millis(LOOK));
     }
     shift
         .station
@@ -157,16 +163,45 @@ fn end_sessions<S: StableStore, L: Begins, R: Wait + Eprint + Clock>(shift: &Shi
         .lose_all(shift.rt, Reason::CentreEnds);
 }
 
-/// Starts a node anew: its next life. None if that is refused: the server ends then, or the part of the journal does.
+/// How a start anew ended.
+#[derive(Drop)]
+enum Started {
+    /// The node's next life.
+    Begun(Life),
+    /// There was no memory for it: the node's life is still this one.
+    Wanting(Life),
+    /// It was refused: the server ends, or the part of the journal does.
+    Refused,
+}
+
+/// Starts a node anew: its next life. If there is no memory for that, it is tried again a second later, and nobody is served meanwhile. None if it is refused,
+/// or if the server or the part of the journal ends before.
 fn next_life<S: StableStore, L: Begins, R: Wait + Eprint + Clock>(
     rt: &R,
     shared: &Shared<S, L>,
     station: &Station,
     life: Life,
 ) -> Option<Life> {
-    let house = &shared.house;
-    let node = station.node;
-    let number = node.number();
+    tell_anew(rt, &shared.house, station);
+    let mut now = life;
+    for _ in rt.forever() {
+        now = match start_anew(rt, shared, station, now) {
+            Started::Begun(next) => return Some(next),
+            Started::Wanting(same) => same,
+            Started::Refused => return None,
+        };
+        shared.house.want();
+        if !waits(rt, &shared.house) {
+            break;
+        }
+    }
+    keep(rt, station, now);
+    None
+}
+
+/// Tells the operator why a node starts anew.
+fn tell_anew<R: Wait + Eprint + Clock>(rt: &R, house: &House, station: &Station) {
+    let number = station.node.number();
     if station.anew.has_failed() {
         house.log.must_tell(
             rt,
@@ -178,23 +213,43 @@ fn next_life<S: StableStore, L: Begins, R: Wait + Eprint + Clock>(
             format_args!("node {number}: it has few message_ids left; it starts anew"),
         );
     }
+}
+
+/// Waits for a second; whether the server and the part of the journal still go on.
+fn waits<R: Wait + Clock>(rt: &R, house: &House) -> bool {
+    for _ in 0..LOOKS {
+        if house.pace.rests() || house.is_over(rt) {
+            return false;
+        }
+        thread::sleep(rt, Duration::from_millis(LOOK));
+    }
+    true
+}
+
+/// Starts a node anew.
+fn start_anew<S: StableStore, L: Begins, R: Wait + Eprint + Clock>(
+    rt: &R,
+    shared: &Shared<S, L>,
+    station: &Station,
+    life: Life,
+) -> Started {
     let Some(mut seat) = shared.seats.take(rt, &shared.cluster) else {
-        drop(life);
-        house.end.set(rt, Ending::Threads);
-        return None;
+        return Started::Wanting(life);
     };
     let started = shared.cluster.restart(rt, &mut seat, life);
     shared.seats.give_back(rt, seat);
     match started {
         Ok((slip, life)) => {
-            house.ring(rt, &slip);
+            shared.house.ring(rt, &slip);
             drop(slip);
             begin_anew(rt, shared, station, &life);
-            Some(life)
+            Started::Begun(life)
         }
+        Err((Refusal::Memory, life)) => Started::Wanting(life),
         Err((refusal, life)) => {
-            refuse_anew(rt, shared, station, refusal, life);
-            None
+            refuse_anew(rt, &shared.house, station, refusal);
+            keep(rt, station, life);
+            Started::Refused
         }
     }
 }
@@ -215,9 +270,12 @@ fn begin_anew<S: StableStore, L: Begins, R: Wait + Eprint + Clock>(
             incarnation.number()
         ),
     );
+    let mut site = station.site.lock(rt);
+    site.lanes.clear();
     if let Ok(id) = MsgId::make(station.node, incarnation, 1) {
-        station.site.lock(rt).refuse_waiting(rt, id);
+        site.refuse_waiting(rt, id);
     }
+    drop(site);
     station.serials.store(0, Ordering::SeqCst);
     station.has_ticked.store(false, Ordering::SeqCst);
     station.has_begun.store(false, Ordering::SeqCst);
@@ -225,21 +283,12 @@ fn begin_anew<S: StableStore, L: Begins, R: Wait + Eprint + Clock>(
     station.anew.is_done();
 }
 
-/// A node can't be started anew. If that is since the journal is full, it is tried again in the next part.
-fn refuse_anew<S: StableStore, L: Begins, R: Wait>(
-    rt: &R,
-    shared: &Shared<S, L>,
-    station: &Station,
-    refusal: Refusal,
-    life: Life,
-) {
-    let house = &shared.house;
-    if refusal != Refusal::Full {
-        house.end.set(rt, Ending::Lost(station.node));
-    } else if house.pace.goes_on() {
-        house.rest();
-    } else {
-        house.end.set(rt, Ending::Full);
+/// A node can't be started anew. If that is since the journal is full, it is tried again in the next part; else the server ends.
+fn refuse_anew<R: Wait>(rt: &R, house: &House, station: &Station, refusal: Refusal) {
+    match refusal {
+        Refusal::Full if house.pace.goes_on() => house.rest(),
+        Refusal::Full => house.end.set(rt, Ending::Full),
+        Refusal::Spent => house.end.set(rt, Ending::Spent(station.node)),
+        _ => house.end.set(rt, Ending::Lost(station.node)),
     }
-    keep(rt, station, life);
 }

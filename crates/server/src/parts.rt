@@ -98,7 +98,7 @@ fn next_part<
         }
         Err(journal) => {
             drop(journal);
-            house.end.set(rt, Ending::Threads);
+            house.end.set(rt, Ending::NoPart);
             None
         }
     }
@@ -114,7 +114,7 @@ fn part<
 {
     let seats = SeatPool::none(house.alloc);
     let Ok(theirs) = Arc::try_clone(house) else {
-        house.end.set(rt, Ending::Threads);
+        house.end.set(rt, Ending::NoPart);
         return closed(cluster, seats.into_seats());
     };
     let shared = Shared {

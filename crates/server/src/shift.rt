@@ -7,12 +7,12 @@ use crate::site::Site;
 use crate::station::Station;
 use crate::trouble::Trouble;
 use mc_types::{MsgId, NodeNo};
-use node_workers::{Begins, Life, Seat};
+use node_workers::{Attempt, Begins, Life, Seat};
 use stable_store::StableStore;
 use std::rt::Clock;
 use std::sync::Wait;
 
-/// How many messages are looked at behind a delivery: it frees one place, and a tick looks at all of them.
+/// How many messages a tick looks at that may be granted, while a look is under way.
 pub(crate) const FEW_LOOKS: usize = 1_000;
 
 /// More than a node has messages.
@@ -100,39 +100,114 @@ impl<S: StableStore, L: Begins, R: Wait + Eprint + Clock> Shift<'_, S, L, R> {
         self.shared.seats.give_back(self.rt, seat);
     }
 
-    /// Has the workers of a node deliver what may be granted there, as far as sessions have places and no delivery is held back. It goes on where it stopped the
-    /// last time, behind the last message from the first on again, and looks at so many messages at most. A refusal is told.
-    pub(crate) fn feed(&self, site: &mut Site, most: usize) -> Result<(), Trouble> {
+    /// Has the workers of a node deliver what waits there, unless deliveries are held back. A refusal is told.
+    pub(crate) fn feed(&self, site: &mut Site) -> Result<(), Trouble> {
         if self.holds() {
             return Ok(());
         }
-        let mut ends = 0;
-        for _ in 0..most {
-            if ends > 1 || !site.has_place() {
+        site.lanes.tidy();
+        for place in 0..site.lanes.len() {
+            self.feed_lane(site, place)?;
+        }
+        Ok(())
+    }
+
+    /// Has workers deliver what waits for the account of a session. A refusal is told.
+    pub(crate) fn feed_session(&self, site: &mut Site, number: u8) -> Result<(), Trouble> {
+        let place = site.lane_of(number);
+        self.feed_at(site, place)
+    }
+
+    /// Has workers deliver what waits in a lane, if it is one, unless deliveries are held back. A refusal is told.
+    pub(crate) fn feed_at(&self, site: &mut Site, place: Option<usize>) -> Result<(), Trouble> {
+        match place {
+            Some(place) if !self.holds() => self.feed_lane(site, place),
+            _ => Ok(()),
+        }
+    }
+
+    /// Has workers deliver what waits in a lane, what came first before the others, up to the first message of each kind for which no worker is free.
+    fn feed_lane(&self, site: &mut Site, place: usize) -> Result<(), Trouble> {
+        for _ in 0..ALL_LOOKS {
+            let long = site.lanes.begins_long(place);
+            if !self.feed_front(site, place, long)? && !self.feed_front(site, place, !long)? {
                 break;
-            }
-            if !self.feed_one(site)? {
-                ends += 1;
             }
         }
         Ok(())
     }
 
-    /// Has a worker deliver the next message that may be granted, if a session of its account has a place, and no one does so already. `false` if none is left:
-    /// the first one comes next then.
-    fn feed_one(&self, site: &mut Site) -> Result<bool, Trouble> {
+    /// Has a worker deliver the first message of a kind in a lane; whether it waits no more.
+    fn feed_front(&self, site: &mut Site, place: usize, long: bool) -> Result<bool, Trouble> {
+        let Some(id) = site.lanes.first(place, long) else {
+            return Ok(false);
+        };
+        if !self.need_not_wait(site, id)? {
+            return Ok(false);
+        }
+        site.lanes.take_off(place, long);
+        Ok(true)
+    }
+
+    /// Has a worker deliver a message that waits; whether it need not wait any more, since one does, or since it is not to be delivered now.
+    fn need_not_wait(&self, site: &mut Site, id: MsgId) -> Result<bool, Trouble> {
+        if site.carries(id) {
+            return Ok(true);
+        }
+        match self.shared.cluster.attempt(self.rt, self.node(), id)? {
+            Some(attempt) => Ok(site.deliver(self.rt, &attempt)?),
+            None => Ok(true),
+        }
+    }
+
+    /// An attempt may have been chosen for a message: if it may be granted, a worker delivers it, or it waits for one.
+    pub(crate) fn hear_of(&self, site: &mut Site, id: MsgId) -> Result<(), Trouble> {
+        if site.sees_to(id) {
+            return Ok(());
+        }
+        let Some(attempt) = self.shared.cluster.attempt(self.rt, self.node(), id)? else {
+            return Ok(());
+        };
+        if self.holds() || site.lanes.holds(&attempt.account, attempt.long) {
+            site.keep(attempt)?;
+            return Ok(());
+        }
+        self.offer(site, attempt)
+    }
+
+    /// Has a worker deliver an attempt that may be granted, if none of its kind waits for its account, behind those of the other kind; it waits if none is free.
+    fn offer(&self, site: &mut Site, attempt: Attempt) -> Result<(), Trouble> {
+        if site.lanes.holds(&attempt.account, !attempt.long) {
+            let place = site.lanes.place_of(&attempt.account);
+            site.keep(attempt)?;
+            return self.feed_at(site, place);
+        }
+        if !site.deliver(self.rt, &attempt)? {
+            site.keep(attempt)?;
+        }
+        Ok(())
+    }
+
+    /// Looks for messages that may be granted and that do not wait, from where the last look stopped, or from the first one on. It looks at so many messages at
+    /// most, up to the last one. A refusal is told, and the look goes on behind it later.
+    pub(crate) fn look(&self, site: &mut Site, most: usize) -> Result<(), Trouble> {
+        for _ in 0..most {
+            if !self.look_at_one(site)? {
+                break;
+            }
+        }
+        Ok(())
+    }
+
+    /// Hears of the next message that may be granted. `false` if none is left: the look is over.
+    fn look_at_one(&self, site: &mut Site) -> Result<bool, Trouble> {
         let cluster = &self.shared.cluster;
         let Some(id) = cluster.grantable_after(self.rt, self.node(), site.fed())? else {
             site.feed_from(None);
             return Ok(false);
         };
         site.feed_from(Some(id));
-        if site.carries(id) {
-            return Ok(true);
-        }
-        if let Some(attempt) = cluster.attempt(self.rt, self.node(), id)? {
-            site.offer(self.rt, attempt)?;
-        }
+        self.hear_of(site, id)?;
         Ok(true)
     }
 }

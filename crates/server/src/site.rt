@@ -5,6 +5,7 @@ ghost use Rattle.std.specs.Prelude.{◌≡◌};
 use crate::berth::Berth;
 use crate::carriage::Carriage;
 use crate::connection::Connection;
+use crate::lanes::Lanes;
 use crate::notice::{Reason, Whom};
 use crate::starting::Arrival;
 use connection_parts::{Job, Tally};
@@ -30,7 +31,8 @@ pub(crate) struct Site {
     pub(crate) service: Service,
     connections: BTreeMap<u8, Arc<Connection>>,
     carried: BTreeMap<u64, Carriage>,
-    // Behind which message those come that are looked at next for a delivery; none, if they begin with the first.
+    pub(crate) lanes: Lanes,
+    // Behind which message those come that are looked at next; none if no look is under way.
     fed: Option<MsgId>,
     clock: Moment,
     pub(crate) tally: Tally,
@@ -44,6 +46,7 @@ impl Site {
             service: Service::none(alloc),
             connections: BTreeMap::new(alloc),
             carried: BTreeMap::new(alloc),
+            lanes: Lanes::none(alloc),
             fed: None,
             clock,
             tally: Tally::zero(),
@@ -236,47 +239,58 @@ impl Site {
         self.carried.contains_key(&id.number())
     }
 
-    /// Behind which message those come that are looked at next for a delivery; none, if they begin with the first.
+    /// Behind which message those come that are looked at next; none if no look is under way.
     pub(crate) fn fed(&self) -> Option<MsgId> {
         self.fed
     }
 
-    /// Those behind this message are looked at next for a delivery; all, from the first on, if it is none.
+    /// Those behind this message are looked at next; if it is none, the look is over, and the next one begins with the first.
     pub(crate) fn feed_from(&mut self, fed: Option<MsgId>) {
         self.fed = fed;
     }
 
-    /// Whether some session may receive and has a place for a deliver_sm in its window.
-    pub(crate) fn has_place(&self) -> bool {
-        for (_, session) in self.service.sessions() {
-            if session.push_refusal().is_none() {
-                return true;
-            }
-        }
-        false
+    /// Whether a delivery of a message is under way, or it waits for one.
+    pub(crate) fn sees_to(&self, id: MsgId) -> bool {
+        self.carries(id) || self.lanes.has(id)
     }
 
-    /// An attempt may be granted: it is given to a worker of the lowest numbered session of its account that has a place in its window. Nothing comes of it if
-    /// no session has. A text that is too long for a short_message needs a session that knows optional parameters; if the account has none, any
-    /// session gets it, whose worker lets it fail. An `Err` is want of memory.
-    pub(crate) fn offer<R: Wait>(&mut self, rt: &R, attempt: Attempt) -> Result<(), AllocError> {
+    /// Where messages for the account of a session wait, if some do or did.
+    pub(crate) fn lane_of(&self, number: u8) -> Option<usize> {
+        self.lanes.place_of(self.service.account(number)?)
+    }
+
+    /// An attempt may be granted: it waits for a worker. An `Err` is want of memory.
+    pub(crate) fn keep(&mut self, attempt: Attempt) -> Result<(), AllocError> {
         let Attempt {
             slot,
             account,
             long,
         } = attempt;
-        let needs_optional = long && self.knows_optional(&account);
+        self.lanes.put(account, long, slot.id)
+    }
+
+    /// Gives an attempt to a worker of the lowest numbered session of its account that has a place in its window; whether one is free. A text that is too long
+    /// for a short_message needs a session that knows optional parameters; if the account has none, any session gets it, whose worker lets it fail. An `Err` is
+    /// want of memory, and nothing is given.
+    pub(crate) fn deliver<R: Wait>(
+        &mut self,
+        rt: &R,
+        attempt: &Attempt,
+    ) -> Result<bool, AllocError> {
+        let slot = attempt.slot;
+        let long = attempt.long;
+        let needs_optional = long && self.knows_optional(&attempt.account);
         let Some(pushed) = self
             .service
-            .push(&account, needs_optional, self.clock, slot)
+            .push(&attempt.account, needs_optional, self.clock, slot)
         else {
-            return Ok(());
+            return Ok(false);
         };
         let is_given = self.give(rt, Job { slot, pushed, long });
         if !matches!(is_given, Ok(true)) {
             self.service.take_back(pushed.number, pushed.sequence);
         }
-        is_given.map(|_| ())
+        is_given
     }
 
     /// Gives a delivery to a worker of its session that is free; whether one is. It is noted first, so that its answer finds it. An `Err` is want of memory,

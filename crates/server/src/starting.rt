@@ -192,7 +192,7 @@ pub(crate) fn start_attendant<
     }
 }
 
-/// Starts the workers of a connection, which deliver over it. An `Err` if one can't be started.
+/// Starts the workers of a session, which deliver over its connection. An `Err` if one can't be started.
 pub(crate) fn start_workers<
     's,
     E,
@@ -202,15 +202,15 @@ pub(crate) fn start_workers<
 >(
     shift: &Shift<'s, S, L, R>,
     scope: &'s Scope<'s, E>,
-    connection: &Arc<Connection>,
+    arrival: &Arrival,
 ) -> Result<(), AllocError> {
     for place in 0..WORKERS {
-        start_worker(shift, scope, connection, place)?;
+        start_worker(shift, scope, arrival, place)?;
     }
     Ok(())
 }
 
-/// Starts the worker of a place of a connection. An `Err` if none can be started.
+/// Starts the worker of a place of a session's connection. An `Err` if none can be started.
 fn start_worker<
     's,
     E,
@@ -220,10 +220,13 @@ fn start_worker<
 >(
     shift: &Shift<'s, S, L, R>,
     scope: &'s Scope<'s, E>,
-    connection: &Arc<Connection>,
+    arrival: &Arrival,
     place: usize,
 ) -> Result<(), AllocError> {
-    let theirs = Arc::try_clone(connection)?;
+    let theirs = Arrival {
+        connection: Arc::try_clone(&arrival.connection)?,
+        number: arrival.number,
+    };
     let (rt, shared) = (shift.rt, shift.shared);
     let (station, life) = (shift.station, shift.life);
     match scope.spawn(move || work(

@@ -1,7 +1,7 @@
 //! The ticks of a node.
 
 use crate::ending::Ending;
-use crate::shift::{ALL_LOOKS, Shift};
+use crate::shift::{FEW_LOOKS, Shift};
 use crate::trouble::Trouble;
 use connection_parts::moment_at;
 use mc_types::Moment;
@@ -106,12 +106,15 @@ fn tick_once<S: StableStore, L: Begins, R: Wait + Eprint + Clock>(shift: &Shift<
         &|| shift.shared.house.have_begun(shift.node()),
     );
     if !shift.is_over()
-        && let Err(trouble) = tick(shift, &mut seat)
+        && let Err(trouble) = tick(shift, &mut seat, false)
     {
         shift.meet(trouble);
     }
     shift.give_back(seat);
 }
+
+/// After how many ticks all messages are looked at that may be granted: so one is found that waits nowhere, as for want of memory.
+const LOOK_TICKS: u32 = 60;
 
 /// Hands in a tick each second until the life of the node is over; but each one ends all rounds, so the next one waits until those are through that the last
 /// one began, also in another part of the journal, unless no packet comes any more.
@@ -123,6 +126,7 @@ pub(crate) fn tick_on<S: StableStore, L: Begins, R: Wait + Eprint + Clock>(
         return;
     };
     let mut low = 0u32;
+    let mut ticks = 0u32;
     for _ in shift.rt.forever() {
         wait_for_rounds(shift);
         sleep(shift);
@@ -130,7 +134,8 @@ pub(crate) fn tick_on<S: StableStore, L: Begins, R: Wait + Eprint + Clock>(
         if shift.is_over() {
             break;
         }
-        if let Err(trouble) = tick(shift, &mut seat) {
+        ticks = ticks.saturating_add(1) % LOOK_TICKS;
+        if let Err(trouble) = tick(shift, &mut seat, ticks == 0) {
             shift.meet(trouble);
         }
         begin(shift);
@@ -247,10 +252,12 @@ fn sleep<S: StableStore, L: Begins, R: Wait + Eprint + Clock>(shift: &Shift<'_, 
     }
 }
 
-/// Hands in a tick: what it gives out goes out, what was pushed and waits too long is given up, and what may be granted is delivered.
+/// Hands in a tick: what it gives out goes out, what was pushed and waits too long is given up, and what waits for a worker is delivered. A look at all that may
+/// be granted begins with it, or goes on.
 fn tick<S: StableStore, L: Begins, R: Wait + Eprint + Clock>(
     shift: &Shift<'_, S, L, R>,
     seat: &mut Seat<L>,
+    begins_look: bool,
 ) -> Result<(), Trouble> {
     let moment = shift.shared.house.now(shift.rt);
     let mut guard = shift.station.site.lock(shift.rt);
@@ -270,5 +277,9 @@ fn tick<S: StableStore, L: Begins, R: Wait + Eprint + Clock>(
     if seconds > 0 {
         site.lose_unbound(shift.rt, seconds);
     }
-    shift.feed(site, ALL_LOOKS)
+    shift.feed(site)?;
+    if begins_look || site.fed().is_some() {
+        shift.look(site, FEW_LOOKS)?;
+    }
+    Ok(())
 }

@@ -5,7 +5,9 @@ ghost use Rattle.std.specs.Prelude.{◌≡◌};
 use crate::berth::Berth;
 use crate::connection::Connection;
 use crate::gate::BerthGate;
-use crate::shift::{FEW_LOOKS, Shift};
+use crate::notice::Reason;
+use crate::shift::Shift;
+use crate::starting::Arrival;
 use crate::trouble::Trouble;
 use connection_parts::Job;
 use node_workers::{Begins, Heard, Home, Seat, tried};
@@ -13,19 +15,26 @@ use stable_store::StableStore;
 use std::rt::Clock;
 use std::sync::Wait;
 
-/// Makes the deliveries that are given to this place of a connection, until it is shut, or workers rest.
+/// Makes the deliveries that are given to this place of a session's connection, until it is shut, or workers rest. If there is no memory for a seat, the
+/// connection is lost: its session would be chosen for deliveries that nobody makes.
 pub(crate) fn work<S: StableStore, L: Begins, R: Wait + Eprint + Clock>(
     shift: &Shift<'_, S, L, R>,
-    connection: &Connection,
+    arrival: &Arrival,
     place: usize,
 ) {
+    let connection = &arrival.connection;
     let Some(berth) = connection.berth(place) else {
         return;
     };
     let Some(mut seat) = shift.seat() else {
-        berth.shut(shift.rt);
+        shift.meet(Trouble::Memory);
+        connection.lose(shift.rt, Reason::NoMemory);
         return;
     };
+    berth.start(shift.rt);
+    if let Err(trouble) = feed(shift, arrival.number) {
+        shift.meet(trouble);
+    }
     for _ in shift.rt.forever() {
         let Some(job) = connection.next_job(shift.rt, place) else {
             break;
@@ -35,6 +44,16 @@ pub(crate) fn work<S: StableStore, L: Begins, R: Wait + Eprint + Clock>(
         }
     }
     shift.give_back(seat);
+}
+
+/// What waits for the account of a session may be delivered, since it has another worker.
+fn feed<S: StableStore, L: Begins, R: Wait + Eprint + Clock>(
+    shift: &Shift<'_, S, L, R>,
+    number: u8,
+) -> Result<(), Trouble> {
+    let mut guard = shift.station.site.lock(shift.rt);
+    let site = &mut *guard;
+    shift.feed_session(site, number)
 }
 
 /// Makes a delivery: has its attempt granted, carries it to the ESME, and hands in what came of it. Its place is free then.
@@ -91,7 +110,7 @@ fn free<S: StableStore, L: Begins, R: Wait + Eprint + Clock>(
     let mut guard = shift.station.site.lock(shift.rt);
     let site = &mut *guard;
     site.delivered(connection, job, is_sent);
-    shift.feed(site, FEW_LOOKS)
+    shift.feed_session(site, job.pushed.number)
 }
 
 /// The packets that the last step of a seat sent are handed in to all nodes.
