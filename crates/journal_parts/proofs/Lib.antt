@@ -5,6 +5,9 @@ pub use Rattle.journal_laws.proofs.Telling
 pub mod Alike
 pub mod Numbers
 pub mod Unsent
+pub mod Carrying
+pub mod Packets
+pub mod Finding
 pub mod Faults
 pub mod Readies
 pub mod Members

@@ -210,6 +210,7 @@ register_more cluster numbers noted carried sent one is within sound came begins
       (came_more numbers packets (entries_of noted) (entry_of one.entry) have sound came (is.came packets have));
   numbered = numbered_more numbers.count noted sent one is.numbered begins;
   carries = is.carries;
+  rise = is.rise;
 }
   where
     in_more : (entry : Entry) → In entry (entries_of (noted ++ one ∷ [])) → In entry (entries_of noted) ⊎ In entry (entry_of one.entry ∷ [])

@@ -26,7 +26,7 @@ use Rattle.journal_laws.proofs.Taken.{starts_anew, stops_and_starts_anew}
 use Rattle.journal_laws.proofs.Growing.{entry_more}
 use Rattle.journal_parts.specs.declared.done.Done.{Done as Taken}
 use Rattle.journal_parts.specs.Entries.{GivesNothing, NamesASave, done_of}
-use Rattle.journal_parts.specs.Members.{IsMember, Posted, Reopens, Strays, packet_halted, save_by}
+use Rattle.journal_parts.specs.Members.{IsMember, Posted, Reopens, packet_halted, save_by}
 
 -- ---- the steps of a start anew
 

@@ -1,5 +1,5 @@
 -- The packets that have numbers where a part of a journal begins (own).
-use Rattle.std.specs.Prelude.{◌≡◌, ℕ, ◌+◌, Bool, nat_le, filter, List, [], ◌∷◌, ◌++◌, length}
+use Rattle.std.specs.Prelude.{◌≡◌, ℕ, ◌+◌, ◌<◌, ◌≤◌, Bool, nat_le, filter, List, [], ◌∷◌, ◌++◌, length}
 use Rattle.std.specs.Arc.{arc_value}
 use Rattle.mc_model.specs.synod.Lists.{In}
 use Rattle.mc_model.specs.synod.Packet.{Packet}
@@ -49,3 +49,8 @@ is_from from one = nat_le from one.number
 
 abbrev pub all_from : ℕ → List Carried → List Carried
 all_from from carried = filter (is_from from) carried
+
+-- their numbers rise, from above the first of these two to the second at most
+abbrev pub RiseWithin : ℕ → ℕ → List Carried → Type 0
+RiseWithin above most [] = above ≤ most
+RiseWithin above most (one ∷ later) = (above < one.number) × RiseWithin one.number most later

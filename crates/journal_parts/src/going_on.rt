@@ -1,17 +1,22 @@
 //! A journal that goes on with another part of the same run.
 
-ghost use Rattle.std.specs.Prelude.{◌≡◌, ◌↔◌, ◌++◌, IfOk, IsTrue, OnOk, length, map};
+ghost use Rattle.std.specs.Prelude.{◌≡◌, ◌≤◌, ◌↔◌, ◌++◌, [], IfOk, IsTrue, OnOk, length, map};
+ghost use Rattle.mc_model.specs.synod.Lists.{In};
 ghost use Rattle.journal_parts.specs.GoingOn.{AreSound, BothAreOne, ClosedOnesGoOn, numbers_behind};
 ghost use Rattle.journal_parts.specs.Histories.{AllPartsAreOne, AllPartsKeepPromises};
 ghost use Rattle.journal_parts.specs.Members.{posted};
-ghost use Rattle.journal_parts.specs.Numbers.{all_from, all_sent_by, sent_by};
+ghost use Rattle.journal_parts.specs.Numbers.{RiseWithin, all_from, all_sent_by, sent_by};
+ghost use Rattle.journal_parts.specs.declared.carried.Carried.{Carried as Again};
 
+use crate::begins::Begins;
 use crate::carried::Carried;
 use crate::journal::Journal;
 use crate::noted::Noted;
 use crate::post::Post;
+use crate::register::Register;
 use stable_store::StableStore;
 use std::alloc::{AllocError, Global};
+use std::sync::ledger::Blank;
 
 impl<S: StableStore> Journal<S> {
     /// How many nodes there are.
@@ -28,10 +33,11 @@ impl<S: StableStore> Journal<S> {
         are_sound(self.posts.as_slice())
     }
 
-    /// All packets with this number or a higher one that may still come in another part, under their numbers: those that were carried before, and those of the
-    /// entries. An `Err` is want of memory.
+    /// All packets with this number or a higher one that may still come in another part, under their numbers, which rise: those that were carried before, and
+    /// those of the entries. An `Err` is want of memory.
     pub fn carried_from(&self, alloc: Global, from: u64) -> Result<Vec<Carried>, AllocError>
-        ensures { IfOk result (λ carried. carried.items ≡ all_from from (numbers_behind self.now).may_come) }
+        ensures items { IfOk result (λ carried. carried.items ≡ all_from from (numbers_behind self.now).may_come) }
+        ensures rise { IfOk result (λ carried. RiseWithin 0 self.now.sent carried.items) }
     {
         let mut into = Vec::new(alloc);
         carry_again(self.carried.as_slice(), from, &mut into)?;
@@ -44,6 +50,30 @@ impl<S: StableStore> Journal<S> {
         ensures { map posted result.items ≡ self.posts }
     {
         self.posts
+    }
+}
+
+impl<L: Begins> Register<L> {
+    /// A part with no entry yet, and room for them all, behind one that was closed: all packets that have numbers there keep them, and those from this number
+    /// on may still come. An `Err` is want of memory.
+    pub fn go_on<S: StableStore>(
+        alloc: Global,
+        blank: Blank,
+        journal: &Journal<S>,
+        from: u64,
+    ) -> Result<Register<L>, AllocError>
+        requires name { blank.name ≡ L.name }
+        requires parts { (blank.parts ≡ L.parts) × (blank.parts ≡ 1000000) }
+        requires sent { L.numbers.count ≡ journal.now.sent }
+        requires carried { (one : Again) → In one (all_from from (numbers_behind journal.now).may_come) → In one L.numbers.may_come }
+        ensures entries { IfOk result (λ register. register.entries ≡ []) }
+        ensures carried { IfOk result (λ register. register.carried ≡ all_from from (numbers_behind journal.now).may_come) }
+        ensures claims { IfOk result (λ register. register.claims ≡ 0) }
+        ensures room { IfOk result (λ register. 200000 ≤ register.room) }
+        ensures seats { IfOk result (λ register. register.seats ≡ 1000000) }
+    {
+        let carried = journal.carried_from(alloc, from)?;
+        Register::begin(alloc, blank, journal.packets(), carried)
     }
 }
 

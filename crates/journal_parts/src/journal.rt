@@ -29,6 +29,7 @@ impl<S: StableStore> Model for Journal<S> {
     ghost use Rattle.std.specs.Prelude.{map};
     ghost use Rattle.journal_parts.specs.Closing.{Closed};
     ghost use Rattle.journal_parts.specs.Members.{posted};
+    ghost use Rattle.journal_parts.specs.Registers.{AreInOrder};
 
     ghost Value = { Closed S };
 
@@ -38,6 +39,8 @@ impl<S: StableStore> Model for Journal<S> {
       sent = j.sent;
       posts = map posted j.posts.items;
     } };
+
+    ghost invariant = { λ j. AreInOrder j.noted.items j.carried.items j.sent };
 }
 
 impl<S: StableStore> Journal<S> {

@@ -1,17 +1,18 @@
 //! The journal of all nodes, under its lock.
 
 ghost use Rattle.std.specs.Prelude.{◌≡◌, ◌⊎◌, ◌↔◌, ◌+◌, ◌-◌, ◌≤◌, ◌<◌, [], ◌∷◌, ◌++◌, false, true, IfErr};
-ghost use Rattle.std.specs.Prelude.{IsErrOf, IfOk, IfSome, IfNone, IsSome, OnErr, OnOk, IsTrue, length, map, option_map, None, Some};
+ghost use Rattle.std.specs.Prelude.{IsErrOf, IfOk, IfSome, IfNone, IsNone, IsSome, OnErr, OnOk, OnSome, IsTrue, length, map, option_map, None, Some};
 ghost use Rattle.std.specs.Arc.{arc_value};
 ghost use Rattle.std.specs.Option.{option_copied};
 ghost use Rattle.synod_acceptor.specs.Packets.{packet_of};
 ghost use Rattle.mc_model.specs.synod.Lists.{In};
 ghost use Rattle.world.specs.Runs.{node_at};
 ghost use Rattle.journal_laws.specs.Journals.{HasItsNumber, IsInRange};
-ghost use Rattle.journal_parts.specs.Entries.{IsSound, entry_of, number_by, number_in};
+ghost use Rattle.journal_parts.specs.Entries.{IsSound, entry_of, number_by};
 ghost use Rattle.journal_parts.specs.Members.{CanBeTaken, IsAct};
-ghost use Rattle.journal_parts.specs.Numbers.{none_sent};
-ghost use Rattle.journal_parts.specs.Registers.{AsksInVain, CameFrom, HasEntered, HasPacket, IsAskedFor, IsUnsent};
+ghost use Rattle.journal_parts.specs.Numbers.{RiseWithin, none_sent};
+ghost use Rattle.journal_parts.specs.Registers.{AsksInVain, CameFrom, ComesAsNumbered, HasEntered, HasPacket, IsAbsent, IsAskedFor, IsUnsent, MayEnter};
+ghost use Rattle.journal_parts.specs.Registers.{carried_under, packet_under, sent_under};
 ghost use Rattle.journal_parts.specs.declared.carried.Carried.{Carried as Again};
 ghost use Rattle.journal_parts.specs.declared.refusal.Refusal.TheVariants.{Broken, Full, Memory, NoSuchPacket};
 
@@ -37,7 +38,8 @@ pub const MOST_ENTRIES: usize = 200_000;
 pub const MOST_SEATS: u64 = 1_000_000;
 
 /// The journal of all nodes, in the order in which their steps were taken. Each packet has the number under which it was sent, from 1. Contracts see the
-/// entries, how many calls have claimed room for one, and how many seats are left.
+/// entries, the packets of earlier parts that may still come, for how many more entries there is room, how many calls have claimed some, and how many seats are
+/// left.
 #[derive(Drop)]
 pub struct Register<L: Begins> {
     // Room for all entries is made as it opens.
@@ -63,6 +65,7 @@ impl<L: Begins> Model for Register<L> {
 
     ghost view = { λ r. record {
       entries = entries_of r.noted.items;
+      carried = r.carried.items;
       claims = r.claims;
       room = vec_capacity r.noted - vec_len r.noted;
       seats = r.seats_left;
@@ -84,15 +87,17 @@ impl<L: Begins> Register<L> {
         requires parts { (blank.parts ≡ L.parts) × (blank.parts ≡ 1000000) }
         requires numbers { L.numbers ≡ none_sent }
         ensures entries { IfOk result (λ register. register.entries ≡ []) }
+        ensures carried { IfOk result (λ register. register.carried ≡ []) }
         ensures claims { IfOk result (λ register. register.claims ≡ 0) }
         ensures room { IfOk result (λ register. 200000 ≤ register.room) }
         ensures seats { IfOk result (λ register. register.seats ≡ 1000000) }
     {
-        Register::go_on(alloc, blank, 0, Vec::new(alloc))
+        Register::begin(alloc, blank, 0, Vec::new(alloc))
     }
 
-    /// A journal with no entry yet, and room for them all, behind so many packets that have numbers, of which these may still come. An `Err` is want of memory.
-    pub fn go_on(
+    /// A journal with no entry yet, and room for them all, behind so many packets that have numbers, of which these may still come, by ascending numbers. An
+    /// `Err` is want of memory.
+    pub(crate) fn begin(
         alloc: Global,
         blank: Blank,
         sent: u64,
@@ -102,7 +107,9 @@ impl<L: Begins> Register<L> {
         requires parts { (blank.parts ≡ L.parts) × (blank.parts ≡ 1000000) }
         requires sent { L.numbers.count ≡ sent }
         requires carried { (one : Again) → In one carried.items → In one L.numbers.may_come }
+        requires rise { RiseWithin 0 L.numbers.count carried.items }
         ensures entries { IfOk result (λ register. register.entries ≡ []) }
+        ensures carried { IfOk result (λ register. register.carried ≡ carried.items) }
         ensures claims { IfOk result (λ register. register.claims ≡ 0) }
         ensures room { IfOk result (λ register. 200000 ≤ register.room) }
         ensures seats { IfOk result (λ register. register.seats ≡ 1000000) }
@@ -127,6 +134,7 @@ impl<L: Begins> Register<L> {
         ensures left { IfSome result (λ seat. (seat.slips ≡ []) × (self.new.seats + 1 ≡ self.old.seats)) }
         ensures none { IfNone result ((self.old.seats ≡ 0) × (self.new.seats ≡ 0)) }
         ensures entries { self.new.entries ≡ self.old.entries }
+        ensures carried { self.new.carried ≡ self.old.carried }
         ensures claims { self.new.claims ≡ self.old.claims }
         ensures room { self.new.room ≡ self.old.room }
     {
@@ -149,10 +157,11 @@ impl<L: Begins> Register<L> {
         ensures stays { OnErr result (self.new.claims ≡ self.old.claims) }
         ensures full { IsErrOf result Full ↔ (self.old.room ≤ self.old.claims) }
         ensures broken { IsErrOf result Broken ↔ ((self.old.claims < self.old.room) × (broken ≡ true)) }
-        ensures absent { IsErrOf result NoSuchPacket → AsksInVain L.numbers self.old.entries step.now }
+        ensures absent { IsErrOf result NoSuchPacket → AsksInVain L.numbers self.old step.now }
         ensures wants { IsErrOf result Memory → IsSome (number_by step.now) }
         ensures faults { IfErr result (λ refusal. (refusal ≡ Full) ⊎ (refusal ≡ Broken) ⊎ (refusal ≡ NoSuchPacket) ⊎ (refusal ≡ Memory)) }
         ensures entries { self.new.entries ≡ self.old.entries }
+        ensures carried { self.new.carried ≡ self.old.carried }
         ensures room { self.new.room ≡ self.old.room }
         ensures seats { self.new.seats ≡ self.old.seats }
     {
@@ -169,6 +178,7 @@ impl<L: Begins> Register<L> {
         ensures full { IsErrOf result Full ↔ (self.old.room ≤ self.old.claims) }
         ensures faults { IfErr result (λ refusal. refusal ≡ Full) }
         ensures entries { self.new.entries ≡ self.old.entries }
+        ensures carried { self.new.carried ≡ self.old.carried }
         ensures room { self.new.room ≡ self.old.room }
         ensures seats { self.new.seats ≡ self.old.seats }
     {
@@ -207,7 +217,7 @@ impl<L: Begins> Register<L> {
         requires { IsAct step.now }
         ensures packet { IfOk result (CanBeTaken step.now) }
         ensures asked { IfOk result (IsAskedFor L.numbers self.now.entries step.now) }
-        ensures absent { IsErrOf result NoSuchPacket → AsksInVain L.numbers self.now.entries step.now }
+        ensures absent { IsErrOf result NoSuchPacket → AsksInVain L.numbers self.now step.now }
         ensures wants { IsErrOf result Memory → IsSome (number_by step.now) }
         ensures faults { IfErr result (λ refusal. (refusal ≡ NoSuchPacket) ⊎ (refusal ≡ Memory)) }
     {
@@ -224,16 +234,18 @@ impl<L: Begins> Register<L> {
     pub fn give_back(&mut self)
         ensures claims { self.new.claims ≡ self.old.claims - 1 }
         ensures entries { self.new.entries ≡ self.old.entries }
+        ensures carried { self.new.carried ≡ self.old.carried }
         ensures room { self.new.room ≡ self.old.room }
         ensures seats { self.new.seats ≡ self.old.seats }
     {
         self.claims = self.claims.saturating_sub(1);
     }
 
-    /// The packet with this number, if one has it: one that an entry sent, or one of an earlier part that may still come.
+    /// The packet with this number: one that an entry sent, or one of an earlier part that may still come. None exactly if no such packet has it.
     pub fn packet(&self, number: u64) -> Option<&Packet>
         ensures some { IfSome (option_copied result) (λ packet. HasPacket L.numbers self.now.entries number (packet_of packet)) }
-        ensures none { IfNone result (IsUnsent L.numbers self.now.entries number) }
+        ensures none { IsNone result ↔ IsAbsent L.numbers self.now number }
+        ensures has { option_map packet_of (option_copied result) ≡ packet_under L.numbers self.now number }
     {
         match self.carried_packet(number) {
             Some(packet) => Some(packet),
@@ -241,9 +253,10 @@ impl<L: Begins> Register<L> {
         }
     }
 
-    /// One of an earlier part that may still come.
+    /// One of an earlier part that may still come. None exactly if none of them has the number.
     fn carried_packet(&self, number: u64) -> Option<&Packet>
-        ensures { IfSome (option_copied result) (λ packet. HasPacket L.numbers self.now.entries number (packet_of packet)) }
+        ensures some { IfSome (option_copied result) (λ packet. HasPacket L.numbers self.now.entries number (packet_of packet)) }
+        ensures has { option_map packet_of (option_copied result) ≡ carried_under self.now.carried number }
     {
         let place = self
             .carried
@@ -260,6 +273,7 @@ impl<L: Begins> Register<L> {
     fn sent_packet(&self, number: u64) -> Option<&Packet>
         ensures some { IfSome (option_copied result) (λ packet. HasPacket L.numbers self.now.entries number (packet_of packet)) }
         ensures none { IfNone result (IsUnsent L.numbers self.now.entries number) }
+        ensures has { option_map packet_of (option_copied result) ≡ sent_under L.numbers.count self.now.entries number }
     {
         let behind = self
             .noted
@@ -272,7 +286,8 @@ impl<L: Begins> Register<L> {
     /// Whether the packet that comes by an entry, if one does, is the one that was sent under its number.
     fn has_sent(&self, entry: &Entry) -> bool
         ensures sent { IsTrue result → CameFrom L.numbers self.now.entries (entry_of entry.now) }
-        ensures none { number_in (entry_of entry.now) ≡ None → result ≡ true }
+        ensures comes { IsTrue result → ComesAsNumbered L.numbers self.now (entry_of entry.now) }
+        ensures only { ComesAsNumbered L.numbers self.now (entry_of entry.now) → IsTrue result }
     {
         let (Some(number), Some(packet)) = (entry.number(), &entry.done.packet) else {
             return true;
@@ -283,17 +298,25 @@ impl<L: Begins> Register<L> {
         }
     }
 
-    /// Adds an entry that had a claim, and its slip to the seat, and gives the same slip. It is None, and nothing is added, only if there is no claim, the
-    /// packet that comes by the entry is not the one that was sent under its number, or there are 2^64 packets. It takes no memory.
+    /// Adds an entry that had a claim, which is spent, and its slip to the seat, and gives the same slip. It is None, and nothing is added, exactly if there is
+    /// no claim, the packet that comes by the entry is not the one that has its number, or a packet would have a number of 2^64 or more. It takes no memory.
     pub fn enter(&mut self, seat: &mut Seat<L>, copies: EntryCopies) -> Option<Slip>
         requires node { IsInRange L.cluster (node_at copies.done.step) }
         requires sound { IsSound copies }
         requires room { 1 ≤ seat.old.room }
         ensures entered { IfSome result (HasEntered self.old.entries copies self.new.entries) }
         ensures slips { IfSome result (λ slip. seat.new.slips ≡ seat.old.slips ++ slip ∷ []) }
-        ensures none { IfNone result ((self.new.entries ≡ self.old.entries) × (seat.new.slips ≡ seat.old.slips)) }
+        ensures may { IsSome result ↔ MayEnter L.numbers self.old copies }
+        ensures none { IfNone result ((self.new ≡ self.old) × (seat.new.slips ≡ seat.old.slips)) }
+        ensures claims { OnSome result (self.new.claims + 1 ≡ self.old.claims) }
+        ensures room { OnSome result (self.new.room + 1 ≡ self.old.room) }
+        ensures carried { self.new.carried ≡ self.old.carried }
+        ensures seats { self.new.seats ≡ self.old.seats }
     {
-        if self.claims == 0 || !self.has_sent(&copies.journal) {
+        if self.claims == 0 {
+            return None;
+        }
+        if !self.has_sent(&copies.journal) {
             return None;
         }
         let before = self.sent;

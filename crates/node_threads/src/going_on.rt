@@ -2,8 +2,9 @@
 
 ghost use Rattle.std.specs.Prelude.{◌≡◌, ◌≤◌, [], IfErr, IfOk, length, map};
 ghost use Rattle.std.specs.Vec.{vec_capacity, vec_len};
-ghost use Rattle.journal_parts.specs.GoingOn.{GoesOn};
+ghost use Rattle.journal_parts.specs.GoingOn.{GoesOn, numbers_behind};
 ghost use Rattle.journal_parts.specs.Members.{posted};
+ghost use Rattle.journal_parts.specs.Numbers.{all_from};
 ghost use Rattle.node_threads.specs.Actions.{AllGoOn};
 
 use crate::cluster::{Cluster, Rooms};
@@ -50,7 +51,7 @@ struct Empty<S: StableStore, L: Begins> {
 }
 
 impl<S: StableStore + Drop, L: Begins> Empty<S, L> {
-    /// Room for the nodes of a journal, and its next part. An `Err` is want of memory.
+    /// Room for the nodes of a journal, and its next part, in which its packets from this number on may still come. An `Err` is want of memory.
     fn make(
         alloc: Global,
         blank: Blank,
@@ -60,12 +61,12 @@ impl<S: StableStore + Drop, L: Begins> Empty<S, L> {
         requires name { blank.name ≡ L.name }
         requires parts { (blank.parts ≡ L.parts) × (blank.parts ≡ 1000000) }
         requires goes { GoesOn S.stored L.cluster L.kept L.numbers journal.now }
+        ensures carried { IfOk result (λ empty. empty.register.carried ≡ all_from from (numbers_behind journal.now).may_come) }
     {
         let nodes = journal.nodes();
-        let carried = journal.carried_from(alloc, from)?;
         Ok(Empty {
             alloc,
-            register: Register::go_on(alloc, blank, journal.packets(), carried)?,
+            register: Register::go_on(alloc, blank, journal, from)?,
             locks: Vec::with_capacity(alloc, nodes)?,
             rooms: Rooms {
                 members: Vec::with_capacity(alloc, nodes)?,

@@ -6,6 +6,9 @@ use Rattle.journal_parts.specs.Registers.{Registered}
 use Rattle.journal_parts.proofs.Closing.{closed}
 use Rattle.journal_parts.proofs.register.Register.close.Goals as goal
 
+pub invariant_of-result : goal.invariant_of-result
+invariant_of-result g c = record { before = g.L.Begins.numbers.count; rise = c.self.invariant.0.rise; numbered = c.self.invariant.0.numbered }
+
 pub returns-clause-closed : goal.returns-clause-closed
 returns-clause-closed g c =
     let count = c.requires.count in

@@ -1,15 +1,17 @@
-use Rattle.std.proofs.Common.{◌≡◌, ℕ, ◌+◌, List, [], ◌∷◌, ◌++◌, refl, sym, ap, subst, arith}
+use Rattle.std.proofs.Common.{◌≡◌, ℕ, ◌+◌, List, [], ◌∷◌, ◌++◌, length, is_some, Option, refl, sym, ap, subst, arith}
 use Rattle.std.proofs.lemmas.List.{length-map}
 use Rattle.std.specs.Arc.{arc_value}
 use Rattle.std.specs.Vec.{vec_len}
 use Rattle.synod_acceptor.specs.Packets.{packet_of}
 use Rattle.world.specs.Runs.{node_at}
-use Rattle.journal_laws.specs.Journals.{Entry, IsInRange}
+use Rattle.journal_laws.specs.Journals.{Entry, IsInRange, packets_sent}
 use Rattle.journal_parts.specs.declared.done.Done.{Done}
 use Rattle.journal_parts.specs.declared.noted.Noted.{Noted}
 use Rattle.journal_parts.specs.Entries.{IsSound, entry_of}
-use Rattle.journal_parts.specs.Registers.{CameFrom, IsRegister, Registered, count_in, entries_of}
+use Rattle.journal_parts.specs.Registers.{CameFrom, ComesAsNumbered, IsRegister, MayEnter, Registered, count_in, entries_of}
+use Rattle.journal_parts.specs.Slips.{Slipped}
 use Rattle.journal_parts.proofs.Numbers.{register_more}
+use Rattle.journal_parts.proofs.Unsent.{sent_count}
 use Rattle.journal_parts.proofs.register.Register.enter.Goals as goal
 
 pub invariant_of-self : goal.invariant_of-self
@@ -44,3 +46,58 @@ invariant_of-self g c =
       c.self.invariant.4,
       (let most = c.self.invariant.5 in let wide = c.push_reserved.ensures.capacity in omega (arith, most, wide)),
     )
+
+pub returns-then-self-eq0-clause-may : goal.returns-then-self-eq0-clause-may
+returns-then-self-eq0-clause-may g c = (
+  (λ is. absurd cc),
+  (λ may.
+      let claimed = may.claimed in
+      let seen = ap (λ (r : Registered). r.claims) c.self.view_is in
+      let none = c.if-self-eq0.true in
+      absurd (omega (arith, claimed, seen, none))),
+)
+
+pub returns-then-not-has_sent-clause-may : goal.returns-then-not-has_sent-clause-may
+returns-then-not-has_sent-clause-may g c = (
+  (λ is. absurd cc),
+  (λ may.
+      let no = c.if-not-has_sent.ensures.only
+      (subst (λ (e : Entry). ComesAsNumbered g.L.Begins.numbers c.args.self.now e) (sym c.copies.view_is) may.comes) in
+      absurd cc),
+)
+
+pub returns-in_err-sent-clause-may : goal.returns-in_err-sent-clause-may
+returns-in_err-sent-clause-may g c = (
+  (λ is. let none = ap (λ (o : Option Slipped). is_some o) c.from_residual.ensures in absurd cc),
+  (λ may.
+      let before = sent_count g.L.Begins.numbers.count c.self.inside.noted.items c.self.inside.sent c.self.invariant.0.numbered c.self.invariant.0.sound in
+      let seen = ap (λ (r : Registered). length (packets_sent r.entries)) c.self.view_is in
+      let sends = length-map (arc_value c.copies.inside.journal.done).outputs.packets.items packet_of in
+      let same = ap (λ (d : Done). vec_len d.outputs.packets) c.deref.ensures in
+      let own = (arc_value c.copies.inside.journal.done).outputs.packets.ok in
+      let len = c.len.ensures in
+      let entry = ap (λ (e : Entry). length e.done.sent) c.copies.view_is in
+      let below = may.below in
+      absurd (c.in_err-sent.ensures (omega (arith, before, seen, sends, same, own, len, entry, below)))),
+)
+
+pub returns-clause-may : goal.returns-clause-may
+returns-clause-may g c = (
+  (λ is.
+      let before = sent_count g.L.Begins.numbers.count c.self.inside.noted.items c.self.inside.sent c.self.invariant.0.numbered c.self.invariant.0.sound in
+      let seen = ap (λ (r : Registered). length (packets_sent r.entries)) c.self.view_is in
+      let sends = length-map (arc_value c.copies.inside.journal.done).outputs.packets.items packet_of in
+      let same = ap (λ (d : Done). vec_len d.outputs.packets) c.deref.ensures in
+      let own = (arc_value c.copies.inside.journal.done).outputs.packets.ok in
+      let len = c.len.ensures in
+      let sum = c.in_ok-sent.ensures in
+      let claims = ap (λ (r : Registered). r.claims) c.self.view_is in
+      let some = c.if-self-eq0.false in
+      let may : MayEnter g.L.Begins.numbers c.args.self.now (entry_of c.copies.inside.journal) = record {
+        claimed = omega (arith, claims, some);
+        comes = c.if-not-has_sent.ensures.comes refl;
+        below = omega (arith, before, seen, sends, same, own, len, sum);
+      } in
+      subst (λ (e : Entry). MayEnter g.L.Begins.numbers c.args.self.now e) c.copies.view_is may),
+  (λ may. refl),
+)

@@ -1,10 +1,6 @@
-use Rattle.std.proofs.Common.{◌≡◌, ℕ, List, map, sym, ap, subst, ◌∙◌}
+use Rattle.std.proofs.Common.{◌≡◌, ℕ, List, sym, ap, subst, ◌∙◌}
 use Rattle.journal_laws.specs.Journals.{Entry, entries_at}
 use Rattle.journal_laws.specs.Likeness.{AreAllAlike}
-use Rattle.journal_parts.specs.declared.entry.Entry.{Entry as Written}
-use Rattle.journal_parts.specs.declared.noted.Noted.{Noted}
-use Rattle.journal_parts.specs.Closing.{IsFound}
-use Rattle.journal_parts.specs.Entries.{entry_of}
 use Rattle.journal_parts.specs.Registers.{Registered, entries_of}
 use Rattle.journal_parts.proofs.Closing.{found}
 use Rattle.journal_parts.proofs.register.Register.finds.Goals as goal

@@ -3,7 +3,6 @@ use Rattle.std.specs.Prelude.{replicate}
 use Rattle.std.specs.Prelude.{◌&&◌, ◌↔◌}
 use Rattle.std.specs.List.{list_all}
 use Rattle.sim_net.proofs.Numbers.{map_length}
-use Rattle.journal_laws.specs.Journals.{Entry}
 use Rattle.journal_parts.specs.declared.noted.Noted.{Noted}
 use Rattle.journal_parts.specs.Entries.{entry_of}
 use Rattle.journal_parts.specs.Marks.{EachOnce, marked_in}

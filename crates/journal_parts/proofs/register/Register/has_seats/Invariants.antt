@@ -1,4 +1,4 @@
-use Rattle.std.proofs.Common.{drop, length}
+use Rattle.std.proofs.Common.{drop}
 use Rattle.journal_parts.specs.Closing.{AllStand}
 use Rattle.journal_parts.proofs.register.Register.has_seats.Given as goal
 

@@ -1,4 +1,4 @@
-use Rattle.std.proofs.Common.{drop, length}
+use Rattle.std.proofs.Common.{drop}
 use Rattle.journal_parts.specs.Closing.{StandAbove}
 use Rattle.journal_parts.proofs.register.Register.has_slips.Given as goal
 
