@@ -78,9 +78,7 @@ impl Berth {
     /// What the ESME answered to the deliver_sm that went out; it waits for that. None if it is given up.
     pub(crate) fn answered<R: Wait>(&self, rt: &R) -> Option<Pdu> {
         let held = self.held.lock(rt);
-        let mut held = self
-            .changed
-            .wait_while(rt, held, |held| held.place.waits());
+        let mut held = self.changed.wait_while(rt, held, |held| held.place.waits());
         held.place.told()
     }
 
