@@ -3,6 +3,8 @@
 use crate::same::assert_same;
 use accounts::Role;
 use config::{Config, read_config};
+use std::alloc::Global;
+use std::process::Abort;
 
 const WHOLE: &str = r#"
 # keys that nobody asks for are ignored
@@ -146,4 +148,31 @@ fn a_script_has_two_accounts(rt: HostRuntime) {
     let holds = of_scripts(&config);
     drop(config);
     assert_same(&rt, &holds, &[true; 5]);
+}
+
+// The least configuration, with so many accounts that may only receive.
+fn with_accounts(rt: &impl Abort, alloc: Global, count: u32) -> Config {
+    let mut text = String::from_str(alloc, LEAST).expect(rt, "memory");
+    for number in 1..=count {
+        let account = write!(
+            text,
+            "[[account]]\nsystem_id = \"sme{number}\"\npassword = \"\"\ntransmit = false\nreceive = true\n"
+        );
+        account.expect(rt, "memory");
+    }
+    let config = read_config(alloc, text.as_bytes());
+    drop(text);
+    config.expect(rt, "a configuration")
+}
+
+#[test]
+fn there_may_be_many_accounts(rt: HostRuntime) {
+    let config = with_accounts(&rt, rt.alloc(), 300);
+    let found = [
+        has_account(&config, b"sme1", b"", false),
+        has_account(&config, b"sme300", b"", false),
+        has_account(&config, b"sme301", b"", false),
+    ];
+    drop(config);
+    assert_same(&rt, &found, &[true, true, false]);
 }
