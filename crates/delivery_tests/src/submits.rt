@@ -9,7 +9,7 @@ use desk::{Admitted, Door, Request};
 use fate_chain::{Author, Chain, Decree, ErrorCode, Final, Kind, Submission};
 use mc_types::{Incarnation, Moment, MsgId, NodeNo};
 use pdu_codec::{Body, Message, SystemId, Text, decode};
-use receipts::receipt_text;
+use receipts::{receipt_pdu, receipt_text};
 use std::alloc::Global;
 use std::process::Abort;
 
@@ -78,12 +78,17 @@ fn assert_delivery(rt: &impl Abort, alloc: Global, submit: &[u8], wanted: &[u8])
     assert_octets(rt, alloc, pdu.expect(rt, "a deliver_sm"), wanted);
 }
 
-/// That this is the text of the receipt, once the message is delivered and told.
-fn assert_receipt(rt: &impl Abort, alloc: Global, submit: &[u8], wanted: &[u8]) {
+/// Its chain, once the message is delivered and that told.
+fn told(rt: &impl Abort, alloc: Global, submit: &[u8]) -> Chain {
     let attempted = attempted(rt, alloc, submit);
     let fate = Kind::Fate(Final::Delivered, ErrorCode::of(0));
     let ended = decided(rt, attempted, fate);
-    let chain = decided(rt, ended, Kind::Told);
+    decided(rt, ended, Kind::Told)
+}
+
+/// That this is the text of the receipt.
+fn assert_receipt(rt: &impl Abort, alloc: Global, submit: &[u8], wanted: &[u8]) {
+    let chain = told(rt, alloc, submit);
     let mut text = Vec::new(alloc);
     let told = receipt_text(&chain, &mut text);
     drop(chain);
@@ -153,4 +158,43 @@ fn the_longest_message_is_delivered(rt: HostRuntime) {
     assert_same(&rt, &(submit.len(), delivery.len()), &(7332, 7332));
     assert_delivery(&rt, alloc, &submit, &delivery);
     assert_receipt(&rt, alloc, &submit, LONGEST_TEXT);
+}
+
+/// The fronts of a submit_sm and of its deliver_sm, up to the 255 octets of text in message_payload, which follow.
+const PAYLOAD_SUBMIT: &[u8] = b"\0\0\x01\x2a\0\0\0\x04\0\0\0\0\0\0\0\x02\
+\0\x01\x01144\0\x01\x01155\0\0\0\0\0\0\x01\0\0\0\0\x04\x24\0\xff";
+
+const PAYLOAD_DELIVERY: &[u8] = b"\0\0\x01\x2a\0\0\0\x05\0\0\0\0\0\0\0\x01\
+\0\x01\x01144\0\x01\x01155\0\0\0\0\0\0\0\0\0\0\0\x04\x24\0\xff";
+
+/// The deliver_sm of the receipt, with the sequence_number 2.
+const PAYLOAD_RECEIPT: &[u8] = b"\0\0\0\xb5\0\0\0\x05\0\0\0\0\0\0\0\x02\
+\0\x01\x01155\0\x01\x01144\0\x04\0\0\0\0\0\0\0\0\
+\x7aid:1000100001 sub:001 dlvrd:001 submit date:2401310000 done date:2401310000 stat:DELIVRD err:000 text:01234567890123456789\
+\0\x1e\0\x0b1000100001\0\x04\x27\0\x01\x02";
+
+/// This front with the text behind it.
+fn with_payload(rt: &impl Abort, alloc: Global, front: &[u8]) -> Vec<u8> {
+    let text = digits(rt, alloc, 255);
+    let octets = [front, &text].concat(alloc);
+    drop(text);
+    octets.expect(rt, "memory")
+}
+
+/// That this is the deliver_sm of the receipt.
+fn assert_receipt_sent(rt: &impl Abort, alloc: Global, submit: &[u8], wanted: &[u8]) {
+    let chain = told(rt, alloc, submit);
+    let pdu = receipt_pdu(alloc, &chain, 2);
+    drop(chain);
+    assert_octets(rt, alloc, pdu.expect(rt, "a receipt"), wanted);
+}
+
+#[test]
+fn a_text_too_long_for_a_short_message_has_its_receipt(rt: HostRuntime) {
+    let alloc = rt.alloc();
+    let submit = with_payload(&rt, alloc, PAYLOAD_SUBMIT);
+    let delivery = with_payload(&rt, alloc, PAYLOAD_DELIVERY);
+    assert_delivery(&rt, alloc, &submit, &delivery);
+    assert_receipt(&rt, alloc, &submit, LONGEST_TEXT);
+    assert_receipt_sent(&rt, alloc, &submit, PAYLOAD_RECEIPT);
 }

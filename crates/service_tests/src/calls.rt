@@ -47,6 +47,18 @@ fn a_session_is_bound(rt: HostRuntime) {
     sees_a_session(&rt, rt.alloc(), &config);
 }
 
+/// As many sessions as a node has, 99, are connected at once.
+#[test]
+fn all_sessions_are_connected(rt: HostRuntime) {
+    let mut service = Service::none(rt.alloc());
+    for number in 1..=99 {
+        service.begin(number).expect(&rt, "memory");
+    }
+    let found = (service.sessions().len(), service.has(99));
+    drop(service);
+    assert_same(&rt, &found, &(99, true));
+}
+
 /// What goes out by the reply that the message of the request of a ticket is taken.
 fn accepted(rt: &impl Abort, service: &mut Service, ticket: u64) -> Option<Sending> {
     service.reply(Reply {

@@ -22,6 +22,10 @@ const ATTEMPT: &[u8] = b"\x02\x01\0\x01\x65\xb9\x8d\x80\x01";
 pub const DELIVERY: &[u8] = b"\0\0\0\x29\0\0\0\x05\0\0\0\0\0\0\0\x07\
 \0\x01\x01144\0\x01\x01155\0\0\0\0\0\0\0\0\0\0\x02Hi";
 
+/// The same with the greatest (SMPP 3.4, section 5.1.4).
+const LAST_DELIVERY: &[u8] = b"\0\0\0\x29\0\0\0\x05\0\0\0\0\x7f\xff\xff\xff\
+\0\x01\x01144\0\x01\x01155\0\0\0\0\0\0\0\0\0\0\x02Hi";
+
 fn chain_of(rt: &impl Abort, alloc: Global, parts: &[&[u8]]) -> Chain {
     let octets = parts.concat(alloc).expect(rt, "memory");
     let chain = Chain::read(alloc, &octets);
@@ -37,9 +41,10 @@ pub fn attempted(rt: &impl Abort, alloc: Global) -> Chain {
 #[test]
 fn an_attempt_has_its_octets(rt: HostRuntime) {
     let chain = attempted(&rt, rt.alloc());
-    let octets = attempt_octets(rt.alloc(), &chain, 7).expect(&rt, "octets");
-    drop(chain);
-    assert_same(&rt, &octets.as_slice(), &DELIVERY);
+    for (sequence, wanted) in [(7, DELIVERY), (0x7fff_ffff, LAST_DELIVERY)] {
+        let octets = attempt_octets(rt.alloc(), &chain, sequence).expect(&rt, "octets");
+        assert_same(&rt, &(sequence, octets.as_slice()), &(sequence, wanted));
+    }
 }
 
 #[test]
