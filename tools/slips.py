@@ -689,8 +689,9 @@ class Slips:
             ids = self.ids(ports, b"before")
             process = serving.process.pid
             before = resource.prlimit(process, resource.RLIMIT_DATA)
-            resource.prlimit(process, resource.RLIMIT_DATA, (self.data_of(process) + MORE_OCTETS, before[1]))
-            taken = self.taken_until_none(ports[0])
+            with bound(ports[0], "sender", pdus.BIND_TRANSMITTER) as esme:
+                resource.prlimit(process, resource.RLIMIT_DATA, (self.data_of(process) + MORE_OCTETS, before[1]))
+                taken = self.taken_until_none(esme)
             print(f"   {len(taken)} messages of {len(LONG)} octets were taken until one was not", flush=True)
             self.check("memory_is_wanted", len(taken) < LONG_MESSAGES and serving.is_up(), serving.said)
             self.check("memory_is_told", serving.says(WANT, WANT_SECONDS), serving.said)
@@ -705,10 +706,10 @@ class Slips:
         words = pathlib.Path(f"/proc/{process}/status").read_text().split()
         return int(words[words.index("VmData:") + 1]) * 1024
 
-    def taken_until_none(self, port):
+    def taken_until_none(self, esme):
         """The ids of long messages, until one is not taken."""
         found = []
-        with contextlib.suppress(Ended, OSError), bound(port, "sender", pdus.BIND_TRANSMITTER) as esme:
+        with contextlib.suppress(Ended, OSError):
             while len(found) < LONG_MESSAGES and (one := esme.submitted("2", b"", [(pdus.MESSAGE_PAYLOAD, LONG)], registered=0)):
                 found.append(one)
         return found

@@ -32,7 +32,9 @@ LINES = [LISTENS, SERVING, ENDED, *map(re.compile, (
 
 
 def without_moment(line):
-    """A line without its moment; one that has none is told so, and is none that anybody looks for."""
+    """A line without its moment. The warnings of a configuration have none; another one that has none is told so, and is none that anybody looks for."""
+    if line.startswith("warning: "):
+        return line
     found = MOMENT.fullmatch(line)
     return found[2] if found else f"without a moment: {line}"
 
