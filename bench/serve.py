@@ -16,6 +16,9 @@ SECONDS`, which does the same for its client, and keeps nothing, neither on a di
 but an ESME: what it is given are deliver_sm, ten open at a time, it answers each once it is in its queue, and hands it on by HTTP; with a store it writes each
 to a file, without a wait for the disk. So it agrees on nothing and tries nothing again.
 
+Then come delays: over three nodes a client at each submits ten messages a second, one behind the other, which go to itself. Printed are the median and the 99th
+percentile of the milliseconds from a submit_sm to its response, and to the deliver_sm.
+
 Last come the fdatasync and fsync that `serve` itself makes for a message, by strace, in runs of their own (if strace is there).
 """
 import argparse
@@ -40,6 +43,7 @@ WINDOW = 10
 MESSAGES, MOST_MESSAGES = 1_000, 50_000
 SECONDS = 120
 NODES = (1, 3, 9)
+DELAY_NODES, DELAY_SECONDS = 3, 20
 SYNCS, SYNC_SECONDS = 500, 2
 SYNC = re.compile(r"\b(?:fdatasync|fsync)\(")
 PART = re.compile(r"part \d+: .*, closed in (\d+) ms")
@@ -55,6 +59,36 @@ def write_config(folder, nodes, over_files):
         lines += ["[[route]]", f'prefix = "{node}"', f'account = "load{node}"']
     (folder / "centre.toml").write_text("\n".join(lines) + "\n")
     return ports
+
+
+class Steady:
+    """A client that submits a message each tenth of a second: when each was sent, answered and delivered, by its number."""
+
+    def __init__(self, port, account, destination):
+        self.esme, self.destination = Esme(port), destination
+        self.sent, self.answered, self.delivered, self.sequences = [], {}, {}, {}
+        found = self.esme.bind(account, "load")
+        if found is None or found.status != pdus.OK:
+            raise Ended(f"the bind of {account} was answered {found}")
+
+    def submit(self):
+        number = len(self.sent)
+        self.sent.append(time.monotonic())
+        body = pdus.message_body(b"%d" % number, source="144", destination=self.destination)
+        self.sequences[self.esme.request(pdus.SUBMIT_SM, body)] = number
+
+    def go_on(self):
+        """Notes what came."""
+        now = time.monotonic()
+        for sequence in [one for one in self.esme.answers if one in self.sequences]:
+            self.answered[self.sequences.pop(sequence)] = now
+            if self.esme.answers.pop(sequence).status != pdus.OK:
+                raise Ended("a submit_sm was refused")
+        for message in self.esme.delivered[len(self.delivered):]:
+            self.delivered[int(message["short_message"])] = now
+
+    def delays(self, moments):
+        return [1e3 * (moments[number] - sent) for number, sent in enumerate(self.sent) if number in moments]
 
 
 class Client:
@@ -160,6 +194,48 @@ def run(program, folder, nodes, over_files, messages):
         print(f"   {refused} submit_sm were refused, {came} messages came, {serving.said()}", flush=True)
 
 
+def submit_steadily(clients, seconds):
+    """Each client submits a message in each tenth of a second, by turns; then what is on its way comes."""
+    begun, esmes = time.monotonic(), [client.esme for client in clients]
+    for turn in range(int(seconds * 10 * len(clients))):
+        due = begun + turn / (10 * len(clients))
+
+        def is_due():
+            for client in clients:
+                client.go_on()
+            return time.monotonic() >= due
+        wait(esmes, is_due, SECONDS)
+        clients[turn % len(clients)].submit()
+
+    def is_done():
+        for client in clients:
+            client.go_on()
+        return all(len(client.delivered) == len(client.sent) == len(client.answered) for client in clients)
+    wait(esmes, is_done, SECONDS)
+
+
+def run_steadily(program, folder, over_files):
+    """A line of the table of delays."""
+    ports = write_config(folder, DELAY_NODES, over_files)
+    serving = Serving(program, folder / "centre.toml", folder)
+    try:
+        if not serving.start():
+            sys.exit(f"serve does not serve: {serving.said()}")
+        clients = [Steady(port, f"load{node}", f"{node}55") for node, port in enumerate(ports, 1)]
+        submit_steadily(clients, DELAY_SECONDS)
+        serving.end()
+    except Ended as fault:
+        sys.exit(f"delays: {fault}; {serving.said()}")
+    finally:
+        serving.kill()
+    count = sum(len(client.sent) for client in clients)
+    cells = []
+    for moments in ("answered", "delivered"):
+        delays = sorted(delay for client in clients for delay in client.delays(getattr(client, moments)))
+        cells += [f"{delays[len(delays) // 2]:.1f}", f"{delays[len(delays) * 99 // 100]:.1f}"] if len(delays) == count else ["not all in time"] * 2
+    put("files" if over_files else "memory", f"{count:,}", *cells)
+
+
 def run_other(file, messages):
     """The line of another centre."""
     other = OtherCentre(file)
@@ -228,6 +304,9 @@ def main():
         run_other(given.centre, messages)
     for in_file in (False, True) if BEARERBOX.exists() else ():
         in_a_folder(run_kannel, messages, in_file)
+    print("\n| Stores | Messages | To the response, ms: median | 99 % | To the deliver_sm, ms: median | 99 % |\n|---|---|---|---|---|---|", flush=True)
+    for over_files in (False, True):
+        in_a_folder(lambda folder: run_steadily(program, folder, over_files))
     if not shutil.which("strace"):
         sys.exit("strace is not here, so the fdatasync of serve are not counted")
     print("\n| Nodes, over files | Messages | fdatasync and fsync of serve a message |\n|---|---|---|", flush=True)

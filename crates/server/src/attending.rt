@@ -51,8 +51,11 @@ fn attend_on<
     let number = arrival.number;
     let mut is_receiver = may_receive(shift, number);
     for _ in shift.rt.forever() {
-        if is_receiver && start_workers(shift, scope, arrival).is_err() {
-            return Some(Reason::NoThread);
+        if is_receiver {
+            if start_workers(shift, scope, arrival).is_err() {
+                return Some(Reason::NoThread);
+            }
+            shift.station.bell.call(shift.rt, 0);
         }
         connection.wait_to_serve(shift.rt);
         is_receiver = match connection.next(shift.rt) {

@@ -4,12 +4,14 @@ use crate::ending::Ending;
 use crate::shift::Shift;
 use crate::station::Wake;
 use crate::trouble::Trouble;
-use mc_types::MsgId;
+use mc_types::{Moment, MsgId};
 use node_workers::{Action, Begins, Packet, Seat, Slip};
+use pdu_codec::SystemId;
 use stable_store::StableStore;
 use std::rt::Clock;
 use std::sync::Wait;
 use std::sync::atomic::Ordering;
+use waiting_requests::Answer;
 
 /// Hands in the packets that are told of, in ascending number, until the life of the node ends. One in whose step the node's store failed is handed in again
 /// in the next life.
@@ -57,6 +59,7 @@ fn carry_to<S: StableStore, L: Begins, R: Wait + Eprint + Clock>(
             .station
             .next
             .store(number.saturating_add(1), Ordering::SeqCst);
+        shift.shared.house.pass(shift.rt, shift.station, number);
     }
     Ok(())
 }
@@ -79,10 +82,16 @@ fn carry<S: StableStore, L: Begins, R: Wait + Eprint + Clock>(
     let mut guard = shift.station.site.lock(shift.rt);
     let site = &mut *guard;
     site.tell(shift.rt, outputs)?;
-    match chosen {
+    let due = due_by(&slip, site.clock());
+    let heard = match chosen {
         Some(id) => shift.hear_of(site, id),
         None => Ok(()),
+    };
+    drop(guard);
+    if let Some(target) = due {
+        shift.shared.house.call(shift.rt, node, target, number);
     }
+    heard
 }
 
 /// The message of which an attempt may have been chosen by a step: that of the vote that came.
@@ -91,4 +100,16 @@ fn chosen_by(slip: &Slip) -> Option<MsgId> {
         Some(Packet::Voted { vote, .. }) => Some(vote.slot().id),
         _ => None,
     }
+}
+
+/// For which account a message became due by a step, at this moment: the vote that came has its submit_sm answered, and its schedule is not later.
+fn due_by(slip: &Slip, clock: Moment) -> Option<&SystemId> {
+    let Some(Packet::Voted { vote, .. }) = slip.packet() else {
+        return None;
+    };
+    let submission = vote.chain.submission();
+    let is_due = submission.schedule.seconds() <= clock.seconds();
+    let mut replies = slip.outputs().replies.iter();
+    let is_accepted = replies.any(|reply| matches!(reply.answer, Answer::Accepted));
+    (is_due && is_accepted).then_some(&submission.target)
 }

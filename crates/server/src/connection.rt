@@ -1,9 +1,9 @@
 //! A connection with an ESME.
 
 use crate::berth::Berth;
+use crate::clock::milliseconds_since;
 use crate::inbox::{Inbox, Next};
 use crate::notice::{Name, Reason, Whom};
-use crate::ticking::milliseconds_since;
 use connection_parts::{Frame, Job, Outbox, Withdrawal};
 use octet_io::CountedWriter;
 use std::alloc::{AllocError, Global};

@@ -1,15 +1,16 @@
 //! What stays of a server through all parts of its journal.
 
+use crate::clock::{milliseconds, milliseconds_since};
 use crate::ending::{End, Ending};
 use crate::log::Log;
 use crate::notice::{Notice, Reason, VisibleText};
 use crate::pace::Pace;
 use crate::station::{Station, Wake};
-use crate::ticking::{milliseconds, milliseconds_since};
 use config::{Config, Own};
 use connection_parts::{Tally, Timepiece};
 use mc_types::{Moment, NodeNo};
 use node_workers::Slip;
+use pdu_codec::SystemId;
 use std::alloc::Global;
 use std::rt::Clock;
 use std::sync::atomic::{AtomicBool, AtomicU64, Ordering};
@@ -141,6 +142,31 @@ impl House {
         let _ = self.counters.newest.fetch_max(newest, Ordering::SeqCst);
         for station in &self.stations {
             station.wake(rt, Wake::Sent(newest));
+        }
+    }
+
+    /// A packet has come to the node of a station: who ticks there is woken if something is due behind it, and who waits for it with rounds.
+    pub(crate) fn pass<R: Wait>(&self, rt: &R, at: &Station, number: u64) {
+        if at.bell.awaits(number) {
+            at.bell.ring(rt);
+        }
+        for station in &self.stations {
+            if station.rounds.awaits(number) {
+                station.bell.ring(rt);
+            }
+        }
+    }
+
+    /// A message of this node for an account became due with this packet: where the account may receive, an attempt is begun at once. If it may at several nodes,
+    /// one begins it, that of the message or the first behind it: else they would begin the same one at odds.
+    pub(crate) fn call<R: Wait>(&self, rt: &R, home: NodeNo, target: &SystemId, number: u64) {
+        let first = usize::from(home.number()).saturating_sub(1);
+        let behind = self.stations.iter().skip(first);
+        for station in behind.chain(self.stations.iter().take(first)) {
+            if station.site.lock(rt).is_up(target) {
+                station.bell.call(rt, number);
+                return;
+            }
         }
     }
 

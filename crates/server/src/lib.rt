@@ -2,9 +2,12 @@
 #![tactic(auto)]
 
 mod attending;
+mod beat;
+mod bell;
 mod berth;
 mod carriage;
 mod carrying;
+mod clock;
 mod connection;
 mod ending;
 mod gate;

@@ -1,6 +1,6 @@
 //! The lines that an operator reads.
 
-use crate::ticking::milliseconds;
+use crate::clock::milliseconds;
 use connection_parts::stamp_at;
 use std::alloc::Global;
 use std::collections::VecDeque;

@@ -33,6 +33,11 @@ impl Rounds {
         (self.left.load(Ordering::SeqCst) > 0).then_some(self.awaited.load(Ordering::SeqCst))
     }
 
+    /// Whether they wait for this packet, and for none behind it.
+    pub(crate) fn awaits(&self, number: u64) -> bool {
+        self.awaited() == Some(number)
+    }
+
     /// Those packets have come, by which others were sent, up to this number.
     pub(crate) fn pass(&self, newest: u64) {
         self.awaited.store(newest, Ordering::SeqCst);

@@ -5,6 +5,8 @@ ghost use Rattle.node_workers.specs.Numbers.{none_sent};
 ghost use Rattle.node_workers.specs.Actions.{AllBegin};
 ghost use Rattle.node_workers.specs.Histories.{ClosesKept, ClosesParts};
 
+use crate::bell::Bell;
+use crate::clock::{milliseconds, now};
 use crate::ending::{End, Ending};
 use crate::house::{Counters, House};
 use crate::log::Log;
@@ -14,7 +16,6 @@ use crate::rounds::Rounds;
 use crate::site::Site;
 use crate::starting::{start_listeners, start_log};
 use crate::station::{Anew, Station};
-use crate::ticking::{milliseconds, now};
 use config::{Config, Own};
 use connection_parts::Timepiece;
 use crossbeam_channel::unbounded;
@@ -169,6 +170,7 @@ fn stations_of<R: Clock>(
         };
         let _ = listener.set_nonblocking(true);
         let (wakes, woken) = unbounded(alloc)?;
+        let bell = Bell::silent(alloc)?;
         stations.push(Station {
             node,
             listener,
@@ -180,6 +182,7 @@ fn stations_of<R: Clock>(
             has_ticked: AtomicBool::new(false),
             has_begun: AtomicBool::new(false),
             rounds: Rounds::none(),
+            bell,
             is_anew: AtomicBool::new(false),
             serials: AtomicU64::new(0),
             life: Mutex::new(lives.pop_front()),

@@ -102,6 +102,12 @@ impl Site {
         self.service.accounts_up()
     }
 
+    /// Whether a session of an account may receive.
+    pub(crate) fn is_up(&self, account: &SystemId) -> bool {
+        self.service.sessions().iter().any(|(_, session)| session.state().may_receive()
+            && session.account() == Some(account))
+    }
+
     /// The greatest moment of its ticks.
     pub(crate) fn clock(&self) -> Moment {
         self.clock

@@ -1,5 +1,6 @@
 //! A node of the server, as its threads share it.
 
+use crate::bell::Bell;
 use crate::rounds::Rounds;
 use crate::site::Site;
 use crossbeam_channel::{Receiver, Sender};
@@ -36,6 +37,8 @@ pub(crate) struct Station {
     pub(crate) has_begun: AtomicBool,
     /// How far the rounds are that its last tick began.
     pub(crate) rounds: Rounds,
+    /// What wakes the thread in which it ticks.
+    pub(crate) bell: Bell,
     /// Whether it started anew, and is not through with its first tick.
     pub(crate) is_anew: AtomicBool,
     /// How many serials its incarnation has given.

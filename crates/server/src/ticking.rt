@@ -1,68 +1,29 @@
 //! The ticks of a node.
 
+use crate::beat::Beat;
+use crate::clock::Mark;
 use crate::ending::Ending;
 use crate::shift::{FEW_LOOKS, Shift};
 use crate::trouble::Trouble;
-use connection_parts::moment_at;
-use mc_types::Moment;
 use node_workers::{Action, Begins, Seat};
 use stable_store::StableStore;
 use std::rt::Clock;
 use std::sync::Wait;
 use std::sync::atomic::Ordering;
 use std::thread;
-use std::time::{Duration, Instant, SystemTime, UNIX_EPOCH};
+use std::time::Duration;
 
-/// In how many pieces the second between two ticks is slept, so that the end of a life is seen soon.
+/// In how many pieces the second between two ticks is waited for, so that the end of a life is seen soon.
 const PIECES: u32 = 50;
 
 /// How long a piece is, in milliseconds.
 const PIECE: u64 = 20;
 
-/// What the clock says; the least moment if it can't be read.
-pub(crate) fn now<R: Clock>(rt: &R) -> Moment {
-    let Ok(time) = SystemTime::now(rt) else {
-        return Moment::least();
-    };
-    match time.duration_since(UNIX_EPOCH) {
-        Ok(since) => moment_at(since.as_secs()),
-        Err(_) => Moment::least(),
-    }
-}
-
-/// What the clock says, in milliseconds since 1970; 0 if it can't be read.
-pub(crate) fn milliseconds<R: Clock>(rt: &R) -> u64 {
-    let Ok(time) = SystemTime::now(rt) else {
-        return 0;
-    };
-    match time.duration_since(UNIX_EPOCH) {
-        Ok(since) => since
-            .as_secs()
-            .saturating_mul(1_000)
-            .saturating_add(u64::from(since.subsec_millis())),
-        Err(_) => 0,
-    }
-}
-
-/// How long ago this was, by the clock that rises alone, in milliseconds; 0 if it can't be read.
-pub(crate) fn milliseconds_since<R: Clock>(rt: &R, begun: &Option<Instant>) -> u64 {
-    let Some(begun) = begun else {
-        return 0;
-    };
-    match begun.elapsed(rt) {
-        Ok(gone) => gone
-            .as_secs()
-            .saturating_mul(1_000)
-            .saturating_add(u64::from(gone.subsec_millis())),
-        Err(_) => 0,
-    }
-}
-
 /// How often it is looked whether those of the nodes below have begun: for ten minutes.
 const BELOW_LOOKS: u32 = 30_000;
 
-/// How often it is looked in vain whether packets come before rounds are given up: for five seconds.
-const VAIN_LOOKS: u32 = 250;
+/// For how long no packet comes before rounds are given up, in milliseconds.
+const MOST_SILENCE: u64 = 5_000;
 
 /// Sees to the first tick of a life: before it the clock of a node stands at its least moment, so nobody is served before. As the server begins, it comes once
 /// those of the nodes below are through, and its own rounds are waited for, also in another part of the journal; a node that starts anew is served meanwhile.
@@ -113,11 +74,8 @@ fn tick_once<S: StableStore, L: Begins, R: Wait + Eprint + Clock>(shift: &Shift<
     shift.give_back(seat);
 }
 
-/// After how many ticks all messages are looked at that may be granted: so one is found that waits nowhere, as for want of memory.
-const LOOK_TICKS: u32 = 60;
-
-/// Hands in a tick each second until the life of the node is over; but each one ends all rounds, so the next one waits until those are through that the last
-/// one began, also in another part of the journal, unless no packet comes any more.
+/// Hands in a tick each second until the life of the node is over, and one at once if something is due; but each one ends all rounds, so the next one waits until
+/// those are through that the last one began, also in another part of the journal, unless no packet comes any more.
 pub(crate) fn tick_on<S: StableStore, L: Begins, R: Wait + Eprint + Clock>(
     shift: &Shift<'_, S, L, R>,
 ) {
@@ -125,17 +83,17 @@ pub(crate) fn tick_on<S: StableStore, L: Begins, R: Wait + Eprint + Clock>(
         shift.shared.house.end.set(shift.rt, Ending::Threads);
         return;
     };
-    let mut low = 0u32;
-    let mut ticks = 0u32;
+    let mut beat = Beat::begin(shift.rt);
     for _ in shift.rt.forever() {
         wait_for_rounds(shift);
-        sleep(shift);
-        low = start_anew_if_low(shift, low);
+        beat.pass(shift.rt);
+        let is_at_once = wait_for_turn(shift, &beat);
+        start_anew_if_low(shift, &mut beat, is_at_once);
         if shift.is_over() {
             break;
         }
-        ticks = ticks.saturating_add(1) % LOOK_TICKS;
-        if let Err(trouble) = tick(shift, &mut seat, ticks == 0) {
+        let begins_look = beat.tick(shift.rt);
+        if let Err(trouble) = tick(shift, &mut seat, begins_look) {
             shift.meet(trouble);
         }
         begin(shift);
@@ -143,25 +101,51 @@ pub(crate) fn tick_on<S: StableStore, L: Begins, R: Wait + Eprint + Clock>(
     shift.give_back(seat);
 }
 
-/// After how many ticks a node with few message_ids left starts anew, though requests or deliveries wait there, or packets are under way.
-const PATIENCE: u32 = 30;
+/// Waits until the node is to tick: at once if something is due, and the last tick is long enough ago, else for a second, or until the life is over. Whether it is
+/// at once.
+fn wait_for_turn<S: StableStore, L: Begins, R: Wait + Eprint + Clock>(
+    shift: &Shift<'_, S, L, R>,
+    beat: &Beat,
+) -> bool {
+    let station = shift.station;
+    let mut pieces = 0u32;
+    for _ in shift.rt.forever() {
+        if shift.is_over() || pieces >= PIECES {
+            break;
+        }
+        let is_due = station.bell.is_due(station.next.load(Ordering::SeqCst));
+        let left = if is_due { beat.left(shift.rt) } else { PIECE };
+        if left == 0 {
+            return true;
+        }
+        if !station
+            .bell
+            .wait(shift.rt, Duration::from_millis(left.min(PIECE)))
+        {
+            pieces = pieces.saturating_add(1);
+        }
+    }
+    false
+}
 
-/// Has a node start anew that has few message_ids left, once nothing waits there and all packets have come, or after thirty ticks: a receipt whose round runs
-/// then may be lost. It is asked a second behind the rounds of a tick, when the attempts that these began have been made. How many ticks it has waited.
+/// Has a node start anew that has few message_ids left, once nothing waits there and all packets have come, or after thirty seconds: a receipt whose round runs
+/// then may be lost. It is asked a second behind the rounds of a tick, when the attempts that these began have been made, or else as it is about to tick at once.
 fn start_anew_if_low<S: StableStore, L: Begins, R: Wait + Eprint + Clock>(
     shift: &Shift<'_, S, L, R>,
-    ticks: u32,
-) -> u32 {
-    if !shift.has_few_serials() {
-        return 0;
+    beat: &mut Beat,
+    is_at_once: bool,
+) {
+    let is_low = shift.has_few_serials();
+    let waits_no_more = beat.has_few(shift.rt, is_low);
+    if !is_low {
+        return;
     }
     let house = &shift.shared.house;
-    let is_busy = shift.station.site.lock(shift.rt).is_busy();
+    let is_busy = is_at_once || shift.station.site.lock(shift.rt).is_busy();
     let is_through = house.have_come(house.newest());
-    if (!is_busy && is_through) || ticks >= PATIENCE {
+    if (!is_busy && is_through) || waits_no_more {
         shift.station.anew.run_low();
     }
-    ticks.saturating_add(1)
 }
 
 /// Waits until the rounds are through that the last tick began, as long as packets come. If the life is over before, they are waited for in the next part.
@@ -169,36 +153,34 @@ fn wait_for_rounds<S: StableStore, L: Begins, R: Wait + Eprint + Clock>(
     shift: &Shift<'_, S, L, R>,
 ) {
     let house = &shift.shared.house;
-    let rounds = &shift.station.rounds;
-    let mut vain = 0u32;
+    let station = shift.station;
     let mut looks = 0u32;
     let mut come = house.come();
+    let mut silent = Mark::now(shift.rt);
     for _ in shift.rt.forever() {
-        let Some(awaited) = rounds.awaited() else {
+        let Some(awaited) = station.rounds.awaited() else {
             break;
         };
         if shift.is_over() {
             return;
         }
         if house.have_come(awaited) {
-            rounds.pass(house.newest());
-            vain = 0;
+            station.rounds.pass(house.newest());
+            silent = Mark::now(shift.rt);
             continue;
         }
-        thread::sleep(shift.rt, Duration::from_millis(PIECE));
-        looks = tell_progress(shift, looks);
+        if !station.bell.wait(shift.rt, Duration::from_millis(PIECE)) {
+            looks = tell_progress(shift, looks);
+        }
         let now = house.come();
-        vain = if now == come {
-            vain.saturating_add(1)
-        } else {
-            0
-        };
-        come = now;
-        if vain >= VAIN_LOOKS {
-            rounds.give_up();
+        if now != come {
+            come = now;
+            silent = Mark::now(shift.rt);
+        } else if silent.is_past(shift.rt, MOST_SILENCE) {
+            station.rounds.give_up();
         }
     }
-    if shift.station.is_anew.swap(false, Ordering::SeqCst) {
+    if station.is_anew.swap(false, Ordering::SeqCst) {
         shift.tell_node("through with its first tick");
     }
 }
@@ -242,16 +224,6 @@ fn wait_until<S: StableStore, L: Begins, R: Wait + Eprint + Clock, F: Fn() -> bo
     }
 }
 
-/// Sleeps for a second, or until the life is over.
-fn sleep<S: StableStore, L: Begins, R: Wait + Eprint + Clock>(shift: &Shift<'_, S, L, R>) {
-    for _ in 0..PIECES {
-        if shift.is_over() {
-            return;
-        }
-        thread::sleep(shift.rt, Duration::from_millis(PIECE));
-    }
-}
-
 /// Hands in a tick: what it gives out goes out, what was pushed and waits too long is given up, and what waits for a worker is delivered. A look at all that may
 /// be granted begins with it, or goes on.
 fn tick<S: StableStore, L: Begins, R: Wait + Eprint + Clock>(
@@ -259,6 +231,7 @@ fn tick<S: StableStore, L: Begins, R: Wait + Eprint + Clock>(
     seat: &mut Seat<L>,
     begins_look: bool,
 ) -> Result<(), Trouble> {
+    shift.station.bell.fall_silent();
     let moment = shift.shared.house.now(shift.rt);
     let mut guard = shift.station.site.lock(shift.rt);
     let site = &mut *guard;

@@ -1,0 +1,78 @@
+//! When a node ticks.
+
+use crate::clock::Mark;
+use std::rt::Clock;
+
+/// How long behind its last tick a node ticks at once, at the earliest, in milliseconds.
+const LEAST_GAP: u64 = 20;
+
+/// How many times as long as its last tick and the rounds that it began took, at the earliest: a tick ends all rounds of its node, so of those that it did not
+/// begin itself one in so many is begun again.
+const ROUNDS_IN_GAP: u64 = 4;
+
+/// How long behind each other it is begun to look at all messages that may be granted, in milliseconds: so one is found that waits nowhere, as for want of memory.
+const LOOK_GAP: u64 = 60_000;
+
+/// How long a node with few message_ids left waits for a quiet moment in which to start anew, in milliseconds.
+const PATIENCE: u64 = 30_000;
+
+/// When a node ticks.
+#[derive(Clone, Copy)]
+pub(crate) struct Beat {
+    // When it ticked last.
+    ticked: Mark,
+    // How long behind that it ticks at once, at the earliest, in milliseconds.
+    gap: u64,
+    // When it was begun to look at all messages that may be granted.
+    looked: Mark,
+    // Since when it has few message_ids left, if it has.
+    low: Option<Mark>,
+}
+
+impl Beat {
+    /// It ticked just now.
+    pub(crate) fn begin<R: Clock>(rt: &R) -> Beat {
+        let now = Mark::now(rt);
+        Beat {
+            ticked: now,
+            gap: LEAST_GAP,
+            looked: now,
+            low: None,
+        }
+    }
+
+    /// It ticks now; whether a look at all messages that may be granted is to begin.
+    pub(crate) fn tick<R: Clock>(&mut self, rt: &R) -> bool {
+        self.ticked = Mark::now(rt);
+        let begins_look = self.looked.is_past(rt, LOOK_GAP);
+        if begins_look {
+            self.looked = self.ticked;
+        }
+        begins_look
+    }
+
+    /// The rounds are through that its last tick began.
+    pub(crate) fn pass<R: Clock>(&mut self, rt: &R) {
+        let taken = self.ticked.gone(rt);
+        self.gap = taken.saturating_mul(ROUNDS_IN_GAP).max(LEAST_GAP);
+    }
+
+    /// How many milliseconds are left before it may tick at once.
+    pub(crate) fn left<R: Clock>(&self, rt: &R) -> u64 {
+        self.gap.saturating_sub(self.ticked.gone(rt))
+    }
+
+    /// It has few message_ids left, or not; whether it has had for so long that it waits no more.
+    pub(crate) fn has_few<R: Clock>(&mut self, rt: &R, is_low: bool) -> bool {
+        if !is_low {
+            self.low = None;
+            return false;
+        }
+        let since = match self.low {
+            Some(since) => since,
+            None => Mark::now(rt),
+        };
+        self.low = Some(since);
+        since.is_past(rt, PATIENCE)
+    }
+}
