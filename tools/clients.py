@@ -45,7 +45,7 @@ NEEDED = {
     "kannel": (["test", "-x", "/usr/sbin/bearerbox", "-a", "-x", "/usr/sbin/smsbox"], "kannel"),
 }
 # What no line of the log may have: the passwords, and texts of messages.
-SECRETS = ("pw1", "pw2", "pwplain", "pwmany", "pwsilent", "pwlost", "Hello", "of many", "vanish", "in pieces", "before a kill")
+SECRETS = ("pw1", "pw2", "pwplain", "pwmany", "pwsilent", "pwlost", "Hello", "of many", "vanish", "at once", "in pieces", "before a kill")
 
 
 def missing(parts):

@@ -104,6 +104,19 @@ class Plain:
 
     # Short ones.
 
+    def at_once(self):
+        """A message whose account is bound waits for no tick, whichever node took it: half of eleven come within a third of a second."""
+        for node, esme in ((1, self.main), (2, self.bound("sender", 2, command=pdus.BIND_TRANSMITTER))):
+            delays = sorted(self.delay_of(esme, b"at once %d from %d" % (number, node)) for number in range(11))
+            self.check(f"half_come_at_once_from_node_{node}", delays[5] < 1 / 3, delays)
+
+    def delay_of(self, esme, text):
+        """How many seconds a message to the main ESME takes."""
+        begun = time.monotonic()
+        esme.submitted(PLAIN, text)
+        self.both(esme, lambda: self.main.messages(text), 5)
+        return time.monotonic() - begun
+
     def before_bind(self):
         esme = self.connected()
         found = esme.ask(pdus.ENQUIRE_LINK)
@@ -415,9 +428,9 @@ class Plain:
         self.check("main_session_lives", not self.main.is_ended and self.main.unbind() == pdus.OK, "it is gone")
 
 
-PARTS = (Plain.silence, Plain.vanish, Plain.full_account, Plain.before_bind, Plain.roles, Plain.window, Plain.pieces, Plain.wrong_lengths, Plain.longest,
-         Plain.older_version, Plain.answers_of_all_kinds, Plain.two_hundred, Plain.two_sessions, Plain.never_reads, Plain.places, Plain.silence_ends,
-         Plain.full_account_goes_on, Plain.vanished_one_returns, Plain.ends)
+PARTS = (Plain.silence, Plain.vanish, Plain.full_account, Plain.at_once, Plain.before_bind, Plain.roles, Plain.window, Plain.pieces, Plain.wrong_lengths,
+         Plain.longest, Plain.older_version, Plain.answers_of_all_kinds, Plain.two_hundred, Plain.two_sessions, Plain.never_reads, Plain.places,
+         Plain.silence_ends, Plain.full_account_goes_on, Plain.vanished_one_returns, Plain.ends)
 
 
 def out_of_time(*_):
