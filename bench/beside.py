@@ -1,4 +1,5 @@
-"""Others for `bench/serve.py`, which do a part of what `centre serve` does: a centre in one Python process, and Kannel, which is an ESME."""
+"""Others for `bench/serve.py`, which do a part of what `centre serve` does: the plain server of bench/peer_server, a centre in one Python process, and Kannel,
+which is an ESME."""
 import os
 import pathlib
 import re
@@ -35,6 +36,36 @@ def awaited(test, seconds):
     while not test() and time.monotonic() < end:
         time.sleep(0.05)
     return test()
+
+
+def plain_server(folder):
+    """Builds the plain server of bench/peer_server into a folder, and gives its file."""
+    binary = folder / "plain"
+    command = ["rustc", "--edition", "2024", "-O", "--cfg", "server", "-o", str(binary), str(TOP / "bench" / "peer" / "peer.rs")]
+    subprocess.run(command, check=True)
+    return binary
+
+
+class PlainServer:
+    """The plain server, with a node at each of these ports. It has what `bench/serve.py` asks of a Serving."""
+
+    def __init__(self, binary, ports):
+        self.command, self.process, self.lines = [str(binary), *map(str, ports)], None, []
+
+    def start(self):
+        self.process = subprocess.Popen(self.command, stdin=subprocess.PIPE, stdout=subprocess.PIPE)
+        return self.process.stdout.readline() == b"serving\n"
+
+    def said(self):
+        return "the plain server says nothing"
+
+    def end(self):
+        self.process.stdin.close()
+        return self.process.wait(SECONDS)
+
+    def kill(self):
+        self.process.kill()
+        self.process.wait()
 
 
 class OtherCentre:

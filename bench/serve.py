@@ -11,7 +11,8 @@ of a second; and how many times a second a plain loop writes a page to a file be
 after it; and how many parts of the journal were closed meanwhile, with the longest pause. Clients, server and loop share the processors. A run takes two
 minutes at most, and then says what was left.
 
-Others, with one client and the same messages, in the same table: CENTRE, a Python file of a message centre in one process, run as `python3 CENTRE PORT
+In the same table, in memory: the plain server of bench/peer_server, over the same nodes, if rustc is there, with the same clients. And others, with one client
+and the same messages: CENTRE, a Python file of a message centre in one process, run as `python3 CENTRE PORT
 SECONDS`, which does the same for its client, and keeps nothing, neither on a disk nor on other nodes. Kannel (Debian's `kannel`, if it is there) is no centre
 but an ESME: what it is given are deliver_sm, ten open at a time, it answers each once it is in its queue, and hands it on by HTTP; with a store it writes each
 to a file, without a wait for the disk. So it agrees on nothing and tries nothing again.
@@ -34,7 +35,7 @@ TOP = pathlib.Path(__file__).resolve().parent.parent
 sys.path[:0] = [str(TOP / "tools" / "clients"), str(TOP / "bench")]
 
 import pdus
-from beside import BEARERBOX, OtherCentre, fed_kannel, processor_seconds
+from beside import BEARERBOX, OtherCentre, PlainServer, fed_kannel, plain_server, processor_seconds
 from plain_esme import Ended, Esme, wait
 from ports import free_ports
 from serving import Serving
@@ -167,14 +168,23 @@ def put(*cells):
     print("| " + " | ".join(map(str, cells)) + " |", flush=True)
 
 
+def server_of(program, folder, ports):
+    """The server that a file has: that of `serve`, or the plain one."""
+    return PlainServer(program, ports) if program.name == "plain" else Serving(program, folder / "centre.toml", folder)
+
+
+def name_of(program):
+    return "plain" if program.name == "plain" else "serve"
+
+
 def run(program, folder, nodes, over_files, messages):
     """A line of the table."""
     ports = write_config(folder, nodes, over_files)
     before = syncs_a_second(folder)
-    serving = Serving(program, folder / "centre.toml", folder)
+    serving = server_of(program, folder, ports)
     try:
         if not serving.start():
-            sys.exit(f"serve does not serve: {serving.said()}")
+            sys.exit(f"{name_of(program)} does not serve: {serving.said()}")
         clients = clients_of(ports, messages)
         used = processor_seconds(serving.process.pid)
         answered, delivered = load(clients)
@@ -186,7 +196,7 @@ def run(program, folder, nodes, over_files, messages):
         serving.kill()
     count, refused = sum(client.wanted for client in clients), sum(client.refused for client in clients)
     syncs = f"{before:,.0f} and {syncs_a_second(folder):,.0f}"
-    what = f"serve, {nodes} node{'s' * (nodes > 1)}"
+    what = f"{name_of(program)}, {nodes} node{'s' * (nodes > 1)}"
     rates = [rate(count, answered), rate(count, delivered), f"{1e3 * used / count:.2f} ms"]
     put(what, "files" if over_files else "memory", f"{count:,}", *rates, syncs, parts_of(serving))
     if refused or status != 0 or not delivered:
@@ -217,10 +227,10 @@ def submit_steadily(clients, seconds):
 def run_steadily(program, folder, over_files):
     """A line of the table of delays."""
     ports = write_config(folder, DELAY_NODES, over_files)
-    serving = Serving(program, folder / "centre.toml", folder)
+    serving = server_of(program, folder, ports)
     try:
         if not serving.start():
-            sys.exit(f"serve does not serve: {serving.said()}")
+            sys.exit(f"{name_of(program)} does not serve: {serving.said()}")
         clients = [Steady(port, f"load{node}", f"{node}55") for node, port in enumerate(ports, 1)]
         submit_steadily(clients, DELAY_SECONDS)
         serving.end()
@@ -233,7 +243,7 @@ def run_steadily(program, folder, over_files):
     for moments in ("answered", "delivered"):
         delays = sorted(delay for client in clients for delay in client.delays(getattr(client, moments)))
         cells += [f"{delays[len(delays) // 2]:.1f}", f"{delays[len(delays) * 99 // 100]:.1f}"] if len(delays) == count else ["not all in time"] * 2
-    put("files" if over_files else "memory", f"{count:,}", *cells)
+    put(name_of(program), "files" if over_files else "memory", f"{count:,}", *cells)
 
 
 def run_other(file, messages):
@@ -297,16 +307,23 @@ def main():
         reader.error(f"MESSAGES is {WINDOW} to {MOST_MESSAGES}")
     print("| What | Stores | Messages | Submits answered a second | Delivered a second | Processor time a message | fdatasync a second | Parts closed |")
     print("|---|---|---|---|---|---|---|---|", flush=True)
+    beside = pathlib.Path(tempfile.mkdtemp(prefix="serve-"))
+    plain = plain_server(beside) if shutil.which("rustc") else None
     for nodes in NODES:
         for over_files in (False, True):
             in_a_folder(lambda folder: run(program, folder, nodes, over_files, messages))
+        if plain:
+            in_a_folder(lambda folder: run(plain, folder, nodes, False, messages))
     if given.centre:
         run_other(given.centre, messages)
     for in_file in (False, True) if BEARERBOX.exists() else ():
         in_a_folder(run_kannel, messages, in_file)
-    print("\n| Stores | Messages | To the response, ms: median | 99 % | To the deliver_sm, ms: median | 99 % |\n|---|---|---|---|---|---|", flush=True)
+    print("\n| What | Stores | Messages | To the response, ms: median | 99 % | To the deliver_sm, ms: median | 99 % |\n|---|---|---|---|---|---|---|", flush=True)
     for over_files in (False, True):
         in_a_folder(lambda folder: run_steadily(program, folder, over_files))
+    if plain:
+        in_a_folder(lambda folder: run_steadily(plain, folder, False))
+    shutil.rmtree(beside)
     if not shutil.which("strace"):
         sys.exit("strace is not here, so the fdatasync of serve are not counted")
     print("\n| Nodes, over files | Messages | fdatasync and fsync of serve a message |\n|---|---|---|", flush=True)

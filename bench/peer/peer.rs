@@ -1,8 +1,19 @@
-//! A message centre by the same rules as `centre script`, as a plain Rust program without proofs. The README says which lines and PDUs it has.
+//! A message centre by the same rules as `centre script`, as a plain Rust program without proofs. The README says which lines and PDUs it has. With
+//! `--cfg server` it is the server of `bench/peer_server` over the same nodes.
+#![cfg_attr(server, allow(dead_code))]
 use std::collections::{BTreeMap, BTreeSet, VecDeque};
-use std::io::{self, BufRead, Write};
+#[cfg(not(server))]
+use std::io::BufRead;
+use std::io::{self, Write};
+#[cfg(not(server))]
 use std::rc::Rc;
 use std::str::FromStr;
+#[cfg(server)]
+use std::sync::Arc as Rc;
+
+#[cfg(server)]
+#[path = "../peer_server/plain.rs"]
+mod server;
 
 const START: u32 = 946_684_800;
 const VALIDITY: u32 = 259_200;
@@ -14,7 +25,10 @@ const MOST_DELIVERIES: usize = 100_000;
 const LAST_SERIAL: u64 = 99_999;
 const MOST_ATTEMPTS: u32 = 8;
 const PLACES: usize = 19;
+#[cfg(not(server))]
 const ACCOUNTS: [(&[u8], &[u8]); 2] = [(b"sme1", b"pw1"), (b"sme2", b"pw2")];
+#[cfg(server)]
+use server::ACCOUNTS;
 const PASSED: [u16; 4] = [0x0204, 0x020C, 0x020E, 0x020F];
 const MESSAGE_PAYLOAD: u16 = 0x0424;
 const NO_ANSWER: Kind = Kind::Failed(997);
@@ -361,7 +375,7 @@ impl Node {
     /// Whether this node has to tell its receipt.
     fn owes(&self, chain: &Chain) -> bool { chain.is_untold() && chain.id / 1_000_000_000 == u64::from(self.number) }
 
-    fn tick(&mut self, moment: u32, up: [bool; 2], out: &mut Out) {
+    fn tick(&mut self, moment: u32, up: [bool; ACCOUNTS.len()], out: &mut Out) {
         self.clock = self.clock.max(moment);
         let (clock, me, nodes) = (self.clock, self.number, self.nodes);
         self.queue.retain(|held| {
@@ -385,7 +399,7 @@ impl Node {
     }
 
     /// The chain for which a tick starts a round, if it does.
-    fn due(&mut self, id: u64, up: [bool; 2]) -> Option<Rc<Chain>> {
+    fn due(&mut self, id: u64, up: [bool; ACCOUNTS.len()]) -> Option<Rc<Chain>> {
         let (mut top, mut known) = (None, None);
         if let Some(entry) = self.entries.get(&id) { (top, known) = (entry.told(), entry.known.as_ref()) }
         for held in self.queue.iter().filter(|held| held.id == id) {
@@ -507,11 +521,15 @@ impl<'a> Fields<'a> {
         let text = if short.is_empty() { payload.unwrap_or(short).to_vec() } else { short.to_vec() };
         if text.len() > 254 { end("the peer has no texts of more than 254 octets") }
         if times != (b"", b"") { end("the peer reads no times") }
-        let target = usize::from(destination.digits.first() == Some(&b'2'));
+        let target = route(&destination.digits);
         let (submitter, schedule, expiry) = (0, 0, 0);
         Ok(Message { submitter, target, service, source, destination, esm_class, protocol, priority, registered, coding, schedule, expiry, text, passed })
     }
 }
+
+/// The account that messages to an address go to.
+#[cfg(not(server))]
+fn route(digits: &[u8]) -> usize { usize::from(digits.first() == Some(&b'2')) }
 
 struct Pushed { sequence: u32, since: u32, attempt: Option<(u64, usize)> }
 
@@ -524,11 +542,11 @@ impl Session {
 }
 
 #[derive(Default)]
-struct Site { sessions: BTreeMap<u8, Session>, waiting: [VecDeque<Rc<Chain>>; 2] }
+struct Site { sessions: BTreeMap<u8, Session>, waiting: [VecDeque<Rc<Chain>>; ACCOUNTS.len()] }
 
 impl Site {
-    fn up(&self) -> [bool; 2] {
-        let mut up = [false; 2];
+    fn up(&self) -> [bool; ACCOUNTS.len()] {
+        let mut up = [false; ACCOUNTS.len()];
         self.sessions.values().filter(|session| session.may_receive()).for_each(|session| up[session.account] = true);
         up
     }
@@ -548,12 +566,20 @@ fn put_digits(text: &mut Vec<u8>, octets: &[u8]) {
 }
 
 /// A line with a PDU: the place of its node, the number of its session, and its command, status and sequence_number.
+#[cfg(not(server))]
 fn put_pdu(text: &mut Vec<u8>, (at, number): (usize, u8), [command, status, sequence]: [u32; 3], body: &[u8]) {
     write!(text, "pdu {} {number} ", at + 1).unwrap();
     [16 + body.len() as u32, command, status, sequence].iter().for_each(|word| put_digits(text, &word.to_be_bytes()));
     put_digits(text, body);
     text.push(b'\n');
 }
+
+/// A line with the end of a session.
+#[cfg(not(server))]
+fn put_end(text: &mut Vec<u8>, (at, number): (usize, u8)) { writeln!(text, "gone {} {number}", at + 1).unwrap() }
+
+#[cfg(server)]
+use server::{put_end, put_pdu, route};
 
 fn put_text(body: &mut Vec<u8>, text: &[u8]) {
     body.extend_from_slice(text);
@@ -694,7 +720,7 @@ impl Centre {
         let session = self.sites[at].sessions.remove(&number).unwrap();
         session.pushed.iter().for_each(|pushed| self.answered(at, pushed.attempt, NO_ANSWER));
         put_pdu(&mut self.text, (at, number), [command, status, sequence], &[]);
-        writeln!(self.text, "gone {} {number}", at + 1).unwrap();
+        put_end(&mut self.text, (at, number));
     }
 
     fn serve(&mut self, at: usize, number: u8, frame: &[u8]) {
@@ -889,6 +915,10 @@ fn run(centre: &mut Option<Centre>, octets: &mut Vec<u8>, line: &[u8]) -> Option
     if words.next().is_none() { Some(()) } else { None }
 }
 
+#[cfg(server)]
+fn main() -> io::Result<()> { server::serve() }
+
+#[cfg(not(server))]
 fn main() -> io::Result<()> {
     let (mut input, mut output) = (io::stdin().lock(), io::stdout().lock());
     let (mut centre, mut line, mut octets, mut count) = (None, Vec::new(), Vec::new(), 0);
