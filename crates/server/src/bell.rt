@@ -10,8 +10,10 @@ use std::time::Duration;
 /// What wakes the thread in which a node ticks: that something is due there, so that it is to tick at once, or that packets have come which it waits for.
 #[derive(Drop)]
 pub(crate) struct Bell {
-    // The number of the first packet that need not have come before the node ticks at once; 0 if nothing is due.
+    // Of what is due first, the number of the first packet that need not have come before the node ticks at once; 0 if nothing is due.
     due: AtomicU64,
+    // The same of what was due last.
+    last: AtomicU64,
     rings: Sender<()>,
     heard: Receiver<()>,
 }
@@ -22,6 +24,7 @@ impl Bell {
         let (rings, heard) = bounded(alloc, 1)?;
         Ok(Bell {
             due: AtomicU64::new(0),
+            last: AtomicU64::new(0),
             rings,
             heard,
         })
@@ -29,10 +32,19 @@ impl Bell {
 
     /// Something is due at the node once the packets up to this number have come to it.
     pub(crate) fn call<R: Wait>(&self, rt: &R, number: u64) {
-        let _ = self
-            .due
-            .fetch_max(number.saturating_add(1), Ordering::SeqCst);
+        let behind = number.saturating_add(1);
+        let _ = self.last.fetch_max(behind, Ordering::SeqCst);
+        if !self.is_first(behind) {
+            let _ = self.due.fetch_min(behind, Ordering::SeqCst);
+        }
         self.ring(rt);
+    }
+
+    /// Has something be due alone, if nothing is; whether that was so.
+    fn is_first(&self, behind: u64) -> bool {
+        self.due
+            .compare_exchange(0, behind, Ordering::SeqCst, Ordering::SeqCst)
+            .is_ok()
     }
 
     /// Whether something is due at a node that the packets below this number have come to.
@@ -46,9 +58,13 @@ impl Bell {
         self.due.load(Ordering::SeqCst) == number.saturating_add(1)
     }
 
-    /// The node ticks: nothing is due behind that.
-    pub(crate) fn fall_silent(&self) {
+    /// The node ticks, and the packets below this number have come to it: what waits for another one alone is still due.
+    pub(crate) fn tick(&self, next: u64) {
         self.due.store(0, Ordering::SeqCst);
+        let last = self.last.load(Ordering::SeqCst);
+        if last > next {
+            let _ = self.is_first(last);
+        }
     }
 
     /// The thread wakes, if it waits, and else does not wait the next time.

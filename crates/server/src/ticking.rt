@@ -231,7 +231,8 @@ fn tick<S: StableStore, L: Begins, R: Wait + Eprint + Clock>(
     seat: &mut Seat<L>,
     begins_look: bool,
 ) -> Result<(), Trouble> {
-    shift.station.bell.fall_silent();
+    let next = shift.station.next.load(Ordering::SeqCst);
+    shift.station.bell.tick(next);
     let moment = shift.shared.house.now(shift.rt);
     let mut guard = shift.station.site.lock(shift.rt);
     let site = &mut *guard;
