@@ -4,7 +4,7 @@ use crate::same::assert_same;
 use crate::values::{address, text};
 use desk::{Admitted, Door, Request};
 use mc_types::Moment;
-use pdu_codec::{Body, Cancel, Message, Query, ShortMessage, decode};
+use pdu_codec::{Body, Cancel, Message, Query, ShortMessage, SystemId, decode};
 use pdu_tables::Status;
 use std::alloc::Global;
 use std::process::Abort;
@@ -92,23 +92,27 @@ fn cancel(
     }
 }
 
+fn sme1(rt: &impl Abort, alloc: Global) -> SystemId {
+    text(rt, alloc, b"sme1")
+}
+
 fn request(rt: &impl Abort, alloc: Global, asked: Asked<'_>) -> Request {
     match asked {
         Asked::Submit(registered_delivery) => {
             let message = message(rt, alloc, registered_delivery);
-            Request::Submit(message, Some(text(rt, alloc, b"sme1")))
+            Request::Submit(message, Some(sme1(rt, alloc)))
         }
         Asked::Unrouted(registered_delivery) => {
             Request::Submit(message(rt, alloc, registered_delivery), None)
         }
         Asked::Payloads(tag, lengths) => {
             let message = with_payloads(rt, alloc, tag, lengths);
-            Request::Submit(message, Some(text(rt, alloc, b"sme1")))
+            Request::Submit(message, Some(sme1(rt, alloc)))
         }
         Asked::Beside(tag, length) => {
             let mut message = message(rt, alloc, 1);
             put_payload(rt, alloc, &mut message, tag, length);
-            Request::Submit(message, Some(text(rt, alloc, b"sme1")))
+            Request::Submit(message, Some(sme1(rt, alloc)))
         }
         Asked::UnroutedPayload(length) => {
             Request::Submit(with_payloads(rt, alloc, PAYLOAD, &[length]), None)
@@ -130,29 +134,26 @@ fn door(serial: u32, busy: bool) -> Door {
     }
 }
 
-// What became of a request at a door.
-#[derive(Clone, Copy, Debug, PartialEq, Eq)]
-enum Judged {
-    // It waits: a submit_sm with its schedule and its expiry, or another request about this message.
-    Taken(u32, u32),
-    Queries(u64),
-    Cancels(u64),
-    Refused(Status),
-}
+// What became of a request at a door, as a word and numbers: it waits, a submit_sm with its schedule, its expiry and how many octets its text has, and another
+// request with the message that it is about; or it is refused with a status.
+type Judged = Result<(&'static str, [u64; 3]), Status>;
 
 fn judgement(admitted: &Result<Admitted, Status>) -> Judged {
     match admitted {
         Ok(Admitted::Submit(message)) => {
-            Judged::Taken(message.schedule.seconds(), message.expiry.seconds())
+            let schedule = u64::from(message.schedule.seconds());
+            let expiry = u64::from(message.expiry.seconds());
+            let length = message.content.text().len() as u64;
+            Ok(("Taken", [schedule, expiry, length]))
         }
-        Ok(Admitted::Query { id, .. }) => Judged::Queries(id.number()),
-        Ok(Admitted::Cancel { id, .. }) => Judged::Cancels(id.number()),
-        Err(status) => Judged::Refused(*status),
+        Ok(Admitted::Query { id, .. }) => Ok(("Queries", [id.number(), 0, 0])),
+        Ok(Admitted::Cancel { id, .. }) => Ok(("Cancels", [id.number(), 0, 0])),
+        Err(status) => Err(*status),
     }
 }
 
-fn verdict_on(rt: &impl Abort, alloc: Global, door: Door, asked: Asked<'_>) -> Judged {
-    let account = text(rt, alloc, b"sme1");
+fn verdict_on(rt: &impl Abort, alloc: Global, door: &Door, asked: Asked<'_>) -> Judged {
+    let account = sme1(rt, alloc);
     let admitted = door.admit(&account, request(rt, alloc, asked));
     drop(account);
     let admitted = admitted.expect(rt, "memory");
@@ -167,77 +168,89 @@ type Row = (Asked<'static>, Judged);
 // That these requests at the door of a node become what they are to become. A failure tells what is shown by it.
 fn assert_judged(rt: &impl Abort, alloc: Global, shows: &str, door: &Door, rows: &[Row]) {
     for (number, (asked, wanted)) in rows.iter().enumerate() {
-        let judged = verdict_on(rt, alloc, *door, *asked);
+        let judged = verdict_on(rt, alloc, door, *asked);
         assert_same(rt, &(shows, number, judged), &(shows, number, *wanted));
     }
 }
 
+// Three days from 2000-01-01T00:00:00Z.
+const SCHEDULE: u64 = 946684800;
+
+const EXPIRY: u64 = 946944000;
+
 const WAITING: &[Row] = &[
-    // Three days from 2000-01-01T00:00:00Z.
-    (Asked::Submit(0), Judged::Taken(946684800, 946944000)),
-    (Asked::Query(FIRST, b"144"), Judged::Queries(1000100001)),
+    (Asked::Submit(0), Ok(("Taken", [SCHEDULE, EXPIRY, 2]))),
+    (
+        Asked::Query(FIRST, b"144"),
+        Ok(("Queries", [1000100001, 0, 0])),
+    ),
     (
         Asked::Cancel(FIRST, b"144", b""),
-        Judged::Cancels(1000100001),
+        Ok(("Cancels", [1000100001, 0, 0])),
     ),
 ];
 
 const REFUSED: &[Row] = &[
-    (
-        Asked::Query(b"1", b"144"),
-        Judged::Refused(Status::InvalidMessageId),
-    ),
-    (
-        Asked::Submit(3),
-        Judged::Refused(Status::InvalidRegisteredDelivery),
-    ),
-    (
-        Asked::Unrouted(3),
-        Judged::Refused(Status::InvalidDestinationAddress),
-    ),
-    (
-        Asked::Cancel(b"", b"144", b""),
-        Judged::Refused(Status::CancelFailed),
-    ),
+    (Asked::Query(b"1", b"144"), Err(Status::InvalidMessageId)),
+    (Asked::Submit(3), Err(Status::InvalidRegisteredDelivery)),
+    (Asked::Unrouted(3), Err(Status::InvalidDestinationAddress)),
+    (Asked::Cancel(b"", b"144", b""), Err(Status::CancelFailed)),
     (
         Asked::Cancel(b"100010000", b"144", b""),
-        Judged::Refused(Status::InvalidMessageId),
+        Err(Status::InvalidMessageId),
     ),
 ];
 
-const WITHOUT_SERIAL: &[Row] = &[(Asked::Submit(0), Judged::Refused(Status::MessageQueueFull))];
+const WITHOUT_SERIAL: &[Row] = &[(Asked::Submit(0), Err(Status::MessageQueueFull))];
 
 const WITHOUT_ROOM: &[Row] = &[
-    (Asked::Submit(0), Judged::Refused(Status::Throttled)),
-    (
-        Asked::Query(FIRST, b"144"),
-        Judged::Refused(Status::Throttled),
-    ),
-    (
-        Asked::Cancel(FIRST, b"144", b""),
-        Judged::Refused(Status::Throttled),
-    ),
+    (Asked::Submit(0), Err(Status::Throttled)),
+    (Asked::Query(FIRST, b"144"), Err(Status::Throttled)),
+    (Asked::Cancel(FIRST, b"144", b""), Err(Status::Throttled)),
 ];
 
-// Requests, and how many octets the text has that is taken, or the status that refuses it.
-const TEXTS: &[(Asked<'static>, Result<usize, Status>)] = &[
-    (Asked::Submit(1), Ok(2)),
-    (Asked::Payloads(PAYLOAD, &[]), Ok(0)),
-    (Asked::Payloads(PAYLOAD, &[0]), Ok(0)),
-    (Asked::Payloads(PAYLOAD, &[2]), Ok(2)),
-    (Asked::Payloads(PAYLOAD, &[255]), Ok(255)),
-    (Asked::Payloads(PAYLOAD, &[4096]), Ok(4096)),
+const TEXTS: &[Row] = &[
+    (Asked::Submit(1), Ok(("Taken", [SCHEDULE, EXPIRY, 2]))),
+    (
+        Asked::Payloads(PAYLOAD, &[]),
+        Ok(("Taken", [SCHEDULE, EXPIRY, 0])),
+    ),
+    (
+        Asked::Payloads(PAYLOAD, &[0]),
+        Ok(("Taken", [SCHEDULE, EXPIRY, 0])),
+    ),
+    (
+        Asked::Payloads(PAYLOAD, &[2]),
+        Ok(("Taken", [SCHEDULE, EXPIRY, 2])),
+    ),
+    (
+        Asked::Payloads(PAYLOAD, &[255]),
+        Ok(("Taken", [SCHEDULE, EXPIRY, 255])),
+    ),
+    (
+        Asked::Payloads(PAYLOAD, &[4096]),
+        Ok(("Taken", [SCHEDULE, EXPIRY, 4096])),
+    ),
     (
         Asked::Payloads(PAYLOAD, &[4097]),
         Err(Status::InvalidMessageLength),
     ),
-    (Asked::Payloads(PAYLOAD, &[3, 4097]), Ok(3)),
+    (
+        Asked::Payloads(PAYLOAD, &[3, 4097]),
+        Ok(("Taken", [SCHEDULE, EXPIRY, 3])),
+    ),
     (
         Asked::Payloads(PAYLOAD, &[4097, 3]),
         Err(Status::InvalidMessageLength),
     ),
-    (Asked::Payloads(OTHER, &[4097]), Ok(0)),
-    (Asked::Beside(PAYLOAD, 4097), Ok(2)),
+    (
+        Asked::Payloads(OTHER, &[4097]),
+        Ok(("Taken", [SCHEDULE, EXPIRY, 0])),
+    ),
+    (
+        Asked::Beside(PAYLOAD, 4097),
+        Ok(("Taken", [SCHEDULE, EXPIRY, 2])),
+    ),
     (
         Asked::UnroutedPayload(4097),
         Err(Status::InvalidMessageLength),
@@ -247,33 +260,6 @@ const TEXTS: &[(Asked<'static>, Result<usize, Status>)] = &[
         Err(Status::InvalidDestinationAddress),
     ),
 ];
-
-// How many octets the text has that is taken of a submit_sm, or why it is refused; none if it is no submit_sm.
-fn length_taken(admitted: &Result<Admitted, Status>) -> Option<Result<usize, Status>> {
-    match admitted {
-        Ok(Admitted::Submit(message)) => Some(Ok(message.content.text().len())),
-        Ok(_) => None,
-        Err(status) => Some(Err(*status)),
-    }
-}
-
-fn text_of(rt: &impl Abort, alloc: Global, asked: Asked<'_>) -> Option<Result<usize, Status>> {
-    let account = text(rt, alloc, b"sme1");
-    let admitted = door(1, false).admit(&account, request(rt, alloc, asked));
-    drop(account);
-    let admitted = admitted.expect(rt, "memory");
-    let length = length_taken(&admitted);
-    drop(admitted);
-    length
-}
-
-#[test]
-fn a_text_is_the_short_message_or_the_first_payload(rt: HostRuntime) {
-    for (number, (asked, wanted)) in TEXTS.iter().enumerate() {
-        let taken = text_of(&rt, rt.alloc(), *asked);
-        assert_same(&rt, &(number, taken), &(number, Some(*wanted)));
-    }
-}
 
 // What each of these shows, the next serial at the door, whether so many requests wait already that none more may, and what becomes of requests.
 const DOORS: &[(&str, u32, bool, &[Row])] = &[
@@ -286,6 +272,12 @@ const DOORS: &[(&str, u32, bool, &[Row])] = &[
         WITHOUT_SERIAL,
     ),
     ("no more requests wait than may", 1, true, WITHOUT_ROOM),
+    (
+        "a text is the short_message or the first payload",
+        1,
+        false,
+        TEXTS,
+    ),
 ];
 
 #[test]
@@ -295,30 +287,37 @@ fn requests_are_judged(rt: HostRuntime) {
     }
 }
 
-// The body of a request's PDU, and whether a route leads to an account.
-fn told_of(request: Request) -> (Body, bool) {
-    match request {
-        Request::Submit(message, route) => (Body::SubmitSm(message), route.is_some()),
-        Request::Ask(query) => (Body::QuerySm(query), false),
-        Request::Cancel(cancel) => (Body::CancelSm(cancel), false),
+// Whether the bodies of the PDUs of two requests are the same, and whether a route leads from both or from neither.
+fn have_same_body(one: &Request, other: &Request) -> bool {
+    match (one, other) {
+        (Request::Submit(one, route), Request::Submit(other, way)) => {
+            one == other && route.is_some() == way.is_some()
+        }
+        (Request::Ask(one), Request::Ask(other)) => one == other,
+        (Request::Cancel(one), Request::Cancel(other)) => one == other,
+        _ => false,
     }
 }
 
-fn assert_copied(rt: &impl Abort, alloc: Global, asked: Asked<'_>) {
-    let asked = request(rt, alloc, asked);
-    let copy = asked.copy().expect(rt, "memory");
-    assert_same(rt, &told_of(copy), &told_of(asked));
+// Whether a request is another one, or a copy of it if none is named, and whether they have the same body.
+fn compared(
+    rt: &impl Abort,
+    alloc: Global,
+    one: Asked<'_>,
+    other: Option<Asked<'_>>,
+) -> (bool, bool) {
+    let one = request(rt, alloc, one);
+    let other = match other {
+        Some(other) => request(rt, alloc, other),
+        None => one.copy().expect(rt, "memory"),
+    };
+    let same = (one.is(&other), have_same_body(&one, &other));
+    drop(one);
+    drop(other);
+    same
 }
 
-#[test]
-fn requests_are_copied(rt: HostRuntime) {
-    assert_copied(&rt, rt.alloc(), Asked::Submit(1));
-    assert_copied(&rt, rt.alloc(), Asked::Unrouted(0));
-    assert_copied(&rt, rt.alloc(), Asked::Query(FIRST, b"144"));
-    assert_copied(&rt, rt.alloc(), Asked::Cancel(FIRST, b"144", b"155"));
-}
-
-// No two of them are the same request.
+// No two of them are the same request, and no two of their bodies, with whether a route leads from them, are the same.
 const APART: &[Asked] = &[
     Asked::Submit(0),
     Asked::Submit(1),
@@ -329,20 +328,20 @@ const APART: &[Asked] = &[
     Asked::Cancel(FIRST, b"144", b"155"),
 ];
 
-// That the request of this number is itself, and none of the others.
-fn assert_itself_alone(rt: &impl Abort, alloc: Global, number: usize, asked: &Request) {
-    for (place, one) in APART.iter().enumerate() {
-        let other = request(rt, alloc, *one);
-        let is = asked.is(&other);
-        drop(other);
-        assert_same(rt, &(number, place, is), &(number, place, number == place));
+// That the request of this number is itself, and none of the others, and that its copy is it.
+fn assert_itself_alone(rt: &impl Abort, alloc: Global, number: usize, asked: Asked<'_>) {
+    let copied = compared(rt, alloc, asked, None);
+    assert_same(rt, &(number, copied), &(number, (true, true)));
+    for (place, other) in APART.iter().enumerate() {
+        let same = compared(rt, alloc, asked, Some(*other));
+        let wanted = (number == place, number == place);
+        assert_same(rt, &(number, place, same), &(number, place, wanted));
     }
 }
 
 #[test]
-fn each_request_is_itself_alone(rt: HostRuntime) {
+fn each_request_is_copied_and_is_itself_alone(rt: HostRuntime) {
     for (number, asked) in APART.iter().enumerate() {
-        let asked = request(&rt, rt.alloc(), *asked);
-        assert_itself_alone(&rt, rt.alloc(), number, &asked);
+        assert_itself_alone(&rt, rt.alloc(), number, *asked);
     }
 }

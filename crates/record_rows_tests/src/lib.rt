@@ -6,8 +6,8 @@ mod rows;
 #[cfg(test)]
 mod same;
 #[cfg(test)]
-mod tables;
+mod steps;
 #[cfg(test)]
-mod values;
+mod tables;
 #[cfg(test)]
 mod whose;

@@ -8,6 +8,8 @@ mod octets;
 #[cfg(test)]
 mod same;
 #[cfg(test)]
+mod steps;
+#[cfg(test)]
 mod streams;
 #[cfg(test)]
 mod values;

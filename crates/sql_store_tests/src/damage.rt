@@ -1,20 +1,9 @@
 //! Rows that stand for no record, and numbers that are no incarnation.
 
-use crate::same::assert_same;
-use crate::values::{connection, load, next};
-use sql_store::SqlStore;
-use sqlite::MemStore;
+use crate::steps::{Step, assert_in_memory};
 use stable_store::StoreFault;
 use std::alloc::Global;
 use std::process::Abort;
-
-// The store over both tables once this statement was run there.
-fn after(rt: &impl Abort, alloc: Global, text: &str) -> SqlStore<MemStore> {
-    let mut conn = connection(rt, alloc);
-    conn.execute(text, &[]).expect(rt, "a statement");
-    let adopted = SqlStore::adopt(alloc, conn);
-    adopted.ok().expect(rt, "a store")
-}
 
 // A number that is no integer.
 const NO_INTEGERS: &[&str] = &[
@@ -70,69 +59,72 @@ const VOTELESS_CHAINS: &[&str] = &[
     "INSERT INTO slots VALUES (1000100001, 0, 262161, 0, x'01000000003b9c50a1000101010001386d438004736d653104736d6531000101033134340101033135350000000100386d4380387138000248690000')",
 ];
 
+const REFUSED: Step = Step::Loads(Err(StoreFault::Damaged));
+
+const DAMAGED: &[&[&str]] = &[
+    NO_INTEGERS,
+    NO_IDS,
+    NO_PLACES,
+    NO_BALLOTS,
+    VOTES_ABOVE,
+    OTHER_SLOTS,
+    NO_CHAINS,
+    VOTELESS_CHAINS,
+];
+
 fn assert_damaged(rt: &impl Abort, alloc: Global, rows: &[&str]) {
     for row in rows {
-        let mut store = after(rt, alloc, row);
-        let loaded = load(&mut store);
-        drop(store);
-        assert_same(rt, &loaded, &Err(StoreFault::Damaged));
+        assert_in_memory(rt, alloc, row, &[Step::Runs(row), REFUSED]);
     }
 }
 
 #[test]
 fn damaged_rows_are_refused(rt: HostRuntime) {
-    for rows in [NO_INTEGERS, NO_IDS, NO_PLACES, NO_BALLOTS] {
-        assert_damaged(&rt, rt.alloc(), rows);
-    }
-    for rows in [VOTES_ABOVE, OTHER_SLOTS, NO_CHAINS, VOTELESS_CHAINS] {
+    for rows in DAMAGED {
         assert_damaged(&rt, rt.alloc(), rows);
     }
 }
 
 // The same rows in order are loaded.
+const IN_ORDER: &[Step] = &[
+    Step::Runs(
+        "INSERT INTO slots VALUES (1000100001, 0, 262161, 262161, x'01000000003b9c50a1000101010001386d438004736d653104736d6531000101033134340101033135350000000100386d4380387138000248690000')",
+    ),
+    Step::Loads(Ok(&[(1000100001, 0, 262161, 262161)])),
+];
+
 #[test]
 fn rows_in_order_are_loaded(rt: HostRuntime) {
-    let row =
-        "INSERT INTO slots VALUES (1000100001, 0, 262161, 262161, x'01000000003b9c50a1000101010001386d438004736d653104736d6531000101033134340101033135350000000100386d4380387138000248690000')";
-    let mut store = after(&rt, rt.alloc(), row);
-    let loaded = load(&mut store);
-    drop(store);
-    assert_same(
-        &rt,
-        &loaded,
-        &Ok([Some((1000100001, 0, 262161, 262161)), None, None]),
-    );
+    assert_in_memory(&rt, rt.alloc(), "rows in order", IN_ORDER);
 }
 
-fn assert_next(rt: &impl Abort, alloc: Global, text: &str, wanted: Result<u16, StoreFault>) {
-    let mut store = after(rt, alloc, text);
-    let next = next(&mut store);
-    drop(store);
-    assert_same(rt, &next, &wanted);
-}
+type Row = (&'static str, Result<u16, StoreFault>);
+
+// A statement that stores a number, and the incarnation that begins then: a number that is none is refused, and the last one is 9999.
+const INCARNATIONS: &[Row] = &[
+    ("INSERT INTO life VALUES (1, 'x')", Err(StoreFault::Damaged)),
+    ("INSERT INTO life VALUES (1, 1.5)", Err(StoreFault::Damaged)),
+    ("INSERT INTO life VALUES (1, 0)", Err(StoreFault::Damaged)),
+    ("INSERT INTO life VALUES (1, -1)", Err(StoreFault::Damaged)),
+    (
+        "INSERT INTO life VALUES (1, 10000)",
+        Err(StoreFault::Damaged),
+    ),
+    ("INSERT INTO life VALUES (1, 9998)", Ok(9999)),
+    (
+        "INSERT INTO life VALUES (1, 9999)",
+        Err(StoreFault::Incarnations),
+    ),
+];
 
 #[test]
 fn numbers_that_are_no_incarnation_are_refused(rt: HostRuntime) {
-    for number in ["'x'", "1.5", "0", "-1", "10000"] {
-        let text = format!(in rt.alloc(); "INSERT INTO life VALUES (1, {number})").expect(
-            &rt, "a text",
+    for (text, wanted) in INCARNATIONS {
+        assert_in_memory(
+            &rt,
+            rt.alloc(),
+            text,
+            &[Step::Runs(text), Step::Begins(*wanted)],
         );
-        assert_next(&rt, rt.alloc(), text.as_str(), Err(StoreFault::Damaged));
     }
-}
-
-#[test]
-fn the_last_incarnation_is_9999(rt: HostRuntime) {
-    assert_next(
-        &rt,
-        rt.alloc(),
-        "INSERT INTO life VALUES (1, 9998)",
-        Ok(9999),
-    );
-    assert_next(
-        &rt,
-        rt.alloc(),
-        "INSERT INTO life VALUES (1, 9999)",
-        Err(StoreFault::Incarnations),
-    );
 }

@@ -6,12 +6,14 @@ mod damage;
 #[cfg(test)]
 mod files;
 #[cfg(test)]
+mod large;
+#[cfg(test)]
 mod looking;
 #[cfg(test)]
 mod same;
 #[cfg(test)]
+mod steps;
+#[cfg(test)]
 mod stores;
 #[cfg(test)]
 mod tables;
-#[cfg(test)]
-mod values;

@@ -1,48 +1,33 @@
 //! What is saved and loaded.
 
-use crate::same::assert_same;
-use crate::values::{fault_of_save, load, next, promise, store, vote};
-use sql_store::SqlStore;
-use stable_store::StableStore;
+use crate::steps::{Step, assert_in_memory};
+
+// A record takes the place of that of its slot.
+const SAVED: &[Step] = &[
+    Step::Promises(1000200001, 255, 262161),
+    Step::Votes(262161, 262161),
+    Step::Votes(524305, 262161),
+    Step::Loads(Ok(&[
+        (1000100001, 0, 524305, 262161),
+        (1000200001, 255, 262161, 0),
+    ])),
+];
+
+const COUNTED: &[Step] = &[Step::Begins(Ok(1)), Step::Begins(Ok(2))];
+
+const ADOPTED: &[Step] = &[
+    Step::Votes(262161, 262161),
+    Step::Begins(Ok(1)),
+    Step::IsAdopted,
+    Step::Loads(Ok(&[(1000100001, 0, 262161, 262161)])),
+    Step::Begins(Ok(2)),
+    Step::Failed(0),
+];
 
 #[test]
-fn what_was_saved_is_loaded(rt: HostRuntime) {
-    let mut store = store(&rt, rt.alloc());
-    let first = fault_of_save(&mut store, promise(&rt, 1000200001, 255, 262161));
-    let second = fault_of_save(&mut store, vote(&rt, rt.alloc(), 262161, 262161));
-    let third = fault_of_save(&mut store, vote(&rt, rt.alloc(), 524305, 262161));
-    let loaded = load(&mut store);
-    drop(store);
-    assert_same(&rt, &(first, second, third), &(None, None, None));
-    let vote = Some((1000100001, 0, 524305, 262161));
-    let promise = Some((1000200001, 255, 262161, 0));
-    assert_same(&rt, &loaded, &Ok([vote, promise, None]));
-}
-
-#[test]
-fn incarnations_are_counted(rt: HostRuntime) {
-    let mut store = store(&rt, rt.alloc());
-    let first = next(&mut store);
-    let second = next(&mut store);
-    drop(store);
-    assert_same(&rt, &(first, second), &(Ok(1), Ok(2)));
-}
-
-#[test]
-fn a_connection_is_adopted_again(rt: HostRuntime) {
-    let mut first = store(&rt, rt.alloc());
-    fault_of_save(&mut first, vote(&rt, rt.alloc(), 262161, 262161));
-    let begun = next(&mut first);
-    let adopted = SqlStore::adopt(rt.alloc(), first.into_connection());
-    let mut second = adopted.ok().expect(&rt, "a store");
-    let loaded = load(&mut second);
-    let next = next(&mut second);
-    let failures = second.failures();
-    drop(second);
-    assert_same(
-        &rt,
-        &loaded,
-        &Ok([Some((1000100001, 0, 262161, 262161)), None, None]),
-    );
-    assert_same(&rt, &(begun, next, failures), &(Ok(1), Ok(2), 0));
+fn stores_keep_what_was_saved(rt: HostRuntime) {
+    let alloc = rt.alloc();
+    assert_in_memory(&rt, alloc, "what was saved is loaded", SAVED);
+    assert_in_memory(&rt, alloc, "incarnations are counted", COUNTED);
+    assert_in_memory(&rt, alloc, "a connection is adopted again", ADOPTED);
 }
