@@ -53,19 +53,26 @@ fn ended<S: StableStore>(
     found
 }
 
-// What a node tells whose save of this number fails, and leaves that; none if it makes fewer saves.
-fn told_of(rt: &impl Abort, alloc: Global, play: Play, save: u64, leaves: Leaves) -> Option<Found> {
-    let mut scene = Scene::make(rt, alloc, play);
-    let setup = set_up(rt, play.watched, play.nodes);
-    let (mut watched, life) = opened(rt, alloc, list(alloc, save, leaves), setup);
-    play_on(rt, &mut scene, &mut watched);
+// The watched node opens over a store and plays; if it stops, it opens again. What it tells of the save in which it stopped.
+fn told_over<S: StableStore + Drop>(rt: &impl Abort, scene: &mut Scene, store: S) -> Option<Found> {
+    let setup = set_up(rt, scene.play.watched, scene.play.nodes);
+    let (mut watched, life) = opened(rt, scene.alloc, store, setup);
+    play_on(rt, scene, &mut watched);
     let told = if scene.halt.is_some() {
-        ended(rt, &mut scene, &mut watched, life)
+        ended(rt, scene, &mut watched, life)
     } else {
         drop(life);
         None
     };
     drop(watched);
+    told
+}
+
+// What a node tells whose save of this number fails, and leaves that; none if it makes fewer saves.
+fn told_of(rt: &impl Abort, alloc: Global, play: Play, save: u64, leaves: Leaves) -> Option<Found> {
+    let mut scene = Scene::make(rt, alloc, play);
+    let told = told_over(rt, &mut scene, list(alloc, save, leaves));
+    drop(scene);
     told
 }
 

@@ -1,6 +1,6 @@
 //! The saves of a play in which the watched node may stop, as nodes over lists make them.
 
-use crate::lives::first_life;
+use crate::lives::{Task, perform};
 use crate::play::Play;
 use crate::scene::{Halt, Scene, list};
 use stable_store::{Found, StableStore};
@@ -69,33 +69,36 @@ pub fn stop_after<'a>(rt: &impl Abort, stops: &'a [Stop], steps: u64) -> &'a Sto
     stop.expect(rt, "a step that saves")
 }
 
-// After how many steps the watched node stops whose save of this number fails; none if it makes fewer saves.
-fn steps_before(rt: &impl Abort, alloc: Global, play: Play, save: u64) -> Option<u64> {
+// When the watched node stops over a list whose save of this number fails and leaves this, if it does, and the records of the list then.
+fn listed(
+    rt: &impl Abort,
+    alloc: Global,
+    play: Play,
+    save: u64,
+    found: Found,
+) -> (Option<Halt>, Vec<Record>) {
     let mut scene = Scene::make(rt, alloc, play);
-    drop(first_life(rt, &mut scene, list(alloc, save, Found::Before)));
-    match scene.halt {
-        Some(Halt::Saving(steps)) => Some(steps),
-        _ => None,
-    }
-}
-
-fn records(rt: &impl Abort, alloc: Global, play: Play, save: u64, found: Found) -> Vec<Record> {
-    let mut scene = Scene::make(rt, alloc, play);
-    let mut store = first_life(rt, &mut scene, list(alloc, save, found));
-    store.load().expect(rt, "records")
+    let mut store = perform(rt, &mut scene, list(alloc, save, found), Task::Play);
+    let records = store.load().expect(rt, "records");
+    drop(store);
+    let halt = scene.halt;
+    drop(scene);
+    (halt, records)
 }
 
 // All saves of the watched node.
 pub fn stops(rt: &impl Abort, alloc: Global, play: Play) -> Vec<Stop> {
     let mut stops = Vec::new(alloc);
     for save in 1..MOST {
-        let Some(steps) = steps_before(rt, alloc, play, save) else {
+        let (halt, before) = listed(rt, alloc, play, save, Found::Before);
+        let Some(Halt::Saving(steps)) = halt else {
             return stops;
         };
+        let (_, after) = listed(rt, alloc, play, save, Found::After);
         let stop = Stop {
             steps,
-            before: records(rt, alloc, play, save, Found::Before),
-            after: records(rt, alloc, play, save, Found::After),
+            before,
+            after,
         };
         stops.push(stop).expect(rt, "memory");
     }
