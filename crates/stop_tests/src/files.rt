@@ -100,8 +100,8 @@ fn both_held(rt: &impl Abort, alloc: Global, files: Files<File>, left: Left) -> 
 fn perform_over<S: Alter + Drop>(
     rt: &impl Abort,
     scene: &mut Scene,
-    connection: Connection<S>,
     task: Task,
+    connection: Connection<S>,
 ) -> S {
     let connection = match SqlStore::adopt(scene.alloc, connection) {
         Ok(store) => perform(rt, scene, store, task).into_connection(),
@@ -113,21 +113,31 @@ fn perform_over<S: Alter + Drop>(
     connection.into_store()
 }
 
-// Does a task with a store over the files of a scene, unless they stop before that is there. They hold then what is left of them. No other function speaks of
-// a connection to such files, since it takes most of a minute to prove that one is a store.
+// Does a task with a store over files, unless they stop before that is there. The files then. No other function speaks of a connection to files, since each
+// that does takes as long to prove as ten others; over files of any type it takes less than over those in memory.
+fn perform_over_files<D: Disk + Drop>(
+    rt: &impl Abort,
+    scene: &mut Scene,
+    task: Task,
+    files: Files<D>,
+) -> Files<D> {
+    assert!(rt; files.may_be_used());
+    match Connection::open_files(scene.alloc, files, OPTIONS) {
+        Ok(connection) => perform_over(rt, scene, task, connection).close(),
+        Err((_, unopened)) => {
+            scene.halt = Some(Halt::Opening);
+            unopened.into_files()
+        }
+    }
+}
+
+// Does a task with a store over the files of a scene, which pass so many calls on. They hold then what is left of them.
 pub fn perform_on_files(rt: &impl Abort, scene: &mut Scene, task: Task, fuses: Fuses, left: Left) {
     let alloc = scene.alloc;
     let files = Files {
         log: file(rt, alloc, &scene.octets.log, fuses.0),
         db: file(rt, alloc, &scene.octets.database, fuses.1),
     };
-    assert!(rt; files.may_be_used());
-    let files = match Connection::open_files(alloc, files, OPTIONS) {
-        Ok(connection) => perform_over(rt, scene, connection, task).close(),
-        Err((_, unopened)) => {
-            scene.halt = Some(Halt::Opening);
-            unopened.into_files()
-        }
-    };
+    let files = perform_over_files(rt, scene, task, files);
     scene.octets = both_held(rt, alloc, files, left);
 }

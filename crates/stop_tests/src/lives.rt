@@ -27,7 +27,7 @@ fn played<S: StableStore>(rt: &impl Abort, scene: &mut Scene, mut watched: Node<
     watched.into_store()
 }
 
-fn play<S: StableStore + Drop>(rt: &impl Abort, scene: &mut Scene, store: S) -> S {
+fn play<S: StableStore>(rt: &impl Abort, scene: &mut Scene, store: S) -> S {
     let setup = setup(rt, scene);
     match open_node(scene.alloc, store, setup) {
         Ok((watched, _life)) => played(rt, scene, watched),
@@ -38,7 +38,7 @@ fn play<S: StableStore + Drop>(rt: &impl Abort, scene: &mut Scene, store: S) -> 
     }
 }
 
-fn start_anew<S: StableStore + Drop>(rt: &impl Abort, scene: &mut Scene, store: S) -> S {
+fn start_anew<S: StableStore>(rt: &impl Abort, scene: &mut Scene, store: S) -> S {
     let setup = setup(rt, scene);
     let (mut watched, life) = opened(rt, scene.alloc, store, setup);
     scene.incarnation = life.incarnation().number();
@@ -47,12 +47,7 @@ fn start_anew<S: StableStore + Drop>(rt: &impl Abort, scene: &mut Scene, store: 
 }
 
 // Does a task with a store, which is given back.
-pub fn perform<S: StableStore + Drop>(
-    rt: &impl Abort,
-    scene: &mut Scene,
-    mut store: S,
-    task: Task,
-) -> S {
+pub fn perform<S: StableStore>(rt: &impl Abort, scene: &mut Scene, mut store: S, task: Task) -> S {
     if let Task::Play = task {
         return play(rt, scene, store);
     }

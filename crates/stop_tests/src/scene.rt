@@ -61,7 +61,7 @@ pub fn list(alloc: Global, save: u64, found: Found) -> FailingStore {
 }
 
 // A node that opens over a store.
-pub fn opened<S: StableStore + Drop>(
+pub fn opened<S: StableStore>(
     rt: &impl Abort,
     alloc: Global,
     store: S,
@@ -145,8 +145,12 @@ impl Scene {
 
     // The numbers that were told with this word by the last line.
     pub fn said(&self, word: &str) -> Option<[u64; 4]> {
-        let (_, numbers) = self.told.iter().find(|told| told.0 == word)?;
-        Some(*numbers)
+        for (said, numbers) in &self.told {
+            if *said == word {
+                return Some(*numbers);
+            }
+        }
+        None
     }
 
     // That the last line told what stands behind the arrow of a row, or nothing if there is none.

@@ -37,25 +37,55 @@ fn is_same(one: &Record, other: &Record) -> bool {
 
 // The first of its slot.
 fn first<'a>(records: &'a [Record], record: &Record) -> Option<&'a Record> {
-    records.iter().find(|one| one.slot() == record.slot())
+    for one in records {
+        if one.slot() == record.slot() {
+            return Some(one);
+        }
+    }
+    None
 }
 
 // Whether the first record of this one's slot is the same as this one.
 fn has(records: &[Record], record: &Record) -> bool {
-    first(records, record).is_some_and(|one| is_same(one, record))
+    match first(records, record) {
+        Some(one) => is_same(one, record),
+        None => false,
+    }
 }
 
 fn is_alone(records: &[Record], record: &Record) -> bool {
-    let count = records.iter().filter(|one| one.slot() == record.slot());
-    count.count() == 1
+    let mut count = 0_usize;
+    for one in records {
+        if one.slot() == record.slot() {
+            count = count.saturating_add(1);
+        }
+    }
+    count == 1
+}
+
+// Whether each of these is there once, and is the newest of its slot in a list.
+fn are_newest(found: &[Record], listed: &[Record]) -> bool {
+    for one in found {
+        if !is_alone(found, one) || !has(listed, one) {
+            return false;
+        }
+    }
+    true
+}
+
+// Whether there is one of each slot of a list.
+fn are_all(found: &[Record], listed: &[Record]) -> bool {
+    for one in listed {
+        if first(found, one).is_none() {
+            return false;
+        }
+    }
+    true
 }
 
 // Whether these are the newest records of a list, each once, in any order.
 fn are_same(found: &[Record], listed: &[Record]) -> bool {
-    found
-        .iter()
-        .all(|one| is_alone(found, one) && has(listed, one))
-        && listed.iter().all(|one| first(found, one).is_some())
+    are_newest(found, listed) && are_all(found, listed)
 }
 
 // The last save, in which the watched node would stop after all others.
@@ -65,8 +95,12 @@ pub fn last_save(rt: &impl Abort, stops: &[Stop]) -> Halt {
 
 // The stop that comes after so many steps.
 pub fn stop_after<'a>(rt: &impl Abort, stops: &'a [Stop], steps: u64) -> &'a Stop {
-    let stop = stops.iter().find(|stop| stop.steps == steps);
-    stop.expect(rt, "a step that saves")
+    for stop in stops {
+        if stop.steps == steps {
+            return stop;
+        }
+    }
+    panic!(rt; "a step that saves");
 }
 
 // When the watched node stops over a list whose save of this number fails and leaves this, if it does, and the records of the list then.

@@ -90,12 +90,14 @@ fn assert_seen(rt: &impl Abort, alloc: Global, sweep: Sweep, stops: &[Stop]) {
     }
 }
 
+const STOPPING: &[Stopping] = &[Stopping::Both, Stopping::Log, Stopping::Database];
+
 fn assert_swept(rt: &impl Abort, alloc: Global, play: Play, left: Left) {
     let stops = stops(rt, alloc, play);
-    for stopping in [Stopping::Both, Stopping::Log, Stopping::Database] {
+    for stopping in STOPPING {
         let sweep = Sweep {
             play,
-            stopping,
+            stopping: *stopping,
             left,
         };
         assert_seen(rt, alloc, sweep, &stops);
