@@ -53,19 +53,26 @@ fn ended<S: StableStore>(
     found
 }
 
-// What a node tells whose save of this number fails, and leaves that; none if it makes fewer saves.
-fn told_of(rt: &impl Abort, alloc: Global, play: Play, save: u64, leaves: Leaves) -> Option<Found> {
-    let mut scene = Scene::make(rt, alloc, play);
-    let setup = set_up(rt, play.watched, play.nodes);
-    let (mut watched, life) = opened(rt, alloc, list(alloc, save, leaves), setup);
-    play_on(rt, &mut scene, &mut watched);
+// The watched node opens over a store and plays; if it stops, it opens again. What it tells of the save in which it stopped, and its store.
+fn told_over<S: StableStore>(rt: &impl Abort, scene: &mut Scene, store: S) -> (Option<Found>, S) {
+    let setup = set_up(rt, scene.play.watched, scene.play.nodes);
+    let (mut watched, life) = opened(rt, scene.alloc, store, setup);
+    play_on(rt, scene, &mut watched);
     let told = if scene.halt.is_some() {
-        ended(rt, &mut scene, &mut watched, life)
+        ended(rt, scene, &mut watched, life)
     } else {
         drop(life);
         None
     };
-    drop(watched);
+    (told, watched.into_store())
+}
+
+// What a node tells whose save of this number fails, and leaves that; none if it makes fewer saves.
+fn told_of(rt: &impl Abort, alloc: Global, play: Play, save: u64, leaves: Leaves) -> Option<Found> {
+    let mut scene = Scene::make(rt, alloc, play);
+    let (told, store) = told_over(rt, &mut scene, list(alloc, save, leaves));
+    drop(store);
+    drop(scene);
     told
 }
 
@@ -82,10 +89,18 @@ fn assert_told(rt: &impl Abort, alloc: Global, play: Play, leaves: Leaves, found
     panic!(rt; "too many saves");
 }
 
+// Plays, what a save that fails leaves, and what the node tells of that.
+const ROWS: &[(Play, Leaves, Found)] = &[
+    (ALONE, Leaves::Before, Found::Before),
+    (ALONE, Leaves::After, Found::After),
+    (OF_THREE, Leaves::Before, Found::Before),
+    (OF_THREE, Leaves::After, Found::After),
+];
+
 #[test]
 fn a_node_opens_again_after_each_save_that_failed(rt: HostRuntime) {
-    for play in [ALONE, OF_THREE] {
-        assert_told(&rt, rt.alloc(), play, Leaves::Before, Found::Before);
-        assert_told(&rt, rt.alloc(), play, Leaves::After, Found::After);
+    let alloc = rt.alloc();
+    for (play, leaves, found) in ROWS {
+        assert_told(&rt, alloc, *play, *leaves, *found);
     }
 }

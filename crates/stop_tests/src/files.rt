@@ -1,16 +1,20 @@
-//! Files in memory that stop, and stores over them.
+//! Files in memory that stop, and what is done with a store over them.
 
+use crate::lives::{Task, perform};
+use crate::scene::{Halt, Scene};
 use sql_store::SqlStore;
-use sqlite::{Connection, FileStore, Options};
+use sqlite::{Alter, Connection, Options};
 use sqlite_disk::{Crash, Disk, Files, Fuse, Memory};
 use std::alloc::Global;
 use std::process::Abort;
 
-// After so many frames the log is copied into the database file: every other save.
-const LOG_FRAMES: usize = 4;
-
-// How many pages a connection keeps in memory.
-const PAGES: usize = 10;
+// The log is copied into the database file after every four frames, which is every other save. A connection keeps ten pages in memory.
+const OPTIONS: Options = Options {
+    cache_pages: 10,
+    spill_pages: 10,
+    checkpoint_frames: 4,
+    seed: 1,
+};
 
 // Octets of the log's header, and of a frame: its own header and a page.
 const LOG_HEADER: usize = 32;
@@ -18,10 +22,7 @@ const LOG_HEADER: usize = 32;
 const FRAME: usize = 24 + 4096;
 
 // A file in memory that passes so many calls on, and fails each one after.
-pub type File = Fuse<Memory>;
-
-// A store on disk over two of them.
-pub type Store = SqlStore<FileStore<File>>;
+type File = Fuse<Memory>;
 
 // How many calls the log passes on, and how many the database file.
 pub type Fuses = (u64, u64);
@@ -69,7 +70,9 @@ fn held(rt: &impl Abort, alloc: Global, mut file: File, left: Left) -> Vec<u8> {
     if left == Left::Synced {
         file.crash();
     }
-    Vec::from_slice(alloc, file.inner().bytes()).expect(rt, "memory")
+    let octets = Vec::from_slice(alloc, file.inner().bytes());
+    drop(file);
+    octets.expect(rt, "memory")
 }
 
 // So many octets of a log are whole frames, and its header.
@@ -93,71 +96,48 @@ fn both_held(rt: &impl Abort, alloc: Global, files: Files<File>, left: Left) -> 
     }
 }
 
-// What a store leaves that stops.
-pub fn left_by(rt: &impl Abort, alloc: Global, store: Store, left: Left) -> Octets {
-    octets_of(rt, alloc, store.into_connection(), left)
-}
-
-fn octets_of(
+// Does a task with the store of a connection, unless its files stop before that is there. What the connection was over.
+fn perform_over<S: Alter + Drop>(
     rt: &impl Abort,
-    alloc: Global,
-    connection: Connection<FileStore<File>>,
-    left: Left,
-) -> Octets {
-    both_held(rt, alloc, connection.into_store().close(), left)
-}
-
-// Files that hold these octets.
-fn files(rt: &impl Abort, alloc: Global, octets: &Octets, fuses: Fuses) -> Files<File> {
-    Files {
-        log: file(rt, alloc, &octets.log, fuses.0),
-        db: file(rt, alloc, &octets.database, fuses.1),
-    }
-}
-
-// A connection to files; or what they hold, if they stop before it is there.
-fn connected(
-    rt: &impl Abort,
-    alloc: Global,
-    files: Files<File>,
-    left: Left,
-) -> Result<Connection<FileStore<File>>, Octets> {
-    assert!(rt; files.log.may_be_used() && files.db.may_be_used());
-    let options = Options {
-        cache_pages: PAGES,
-        spill_pages: PAGES,
-        checkpoint_frames: LOG_FRAMES,
-        seed: 1,
+    scene: &mut Scene,
+    task: Task,
+    connection: Connection<S>,
+) -> S {
+    let connection = match SqlStore::adopt(scene.alloc, connection) {
+        Ok(store) => perform(rt, scene, store, task).into_connection(),
+        Err((_, connection)) => {
+            scene.halt = Some(Halt::Opening);
+            connection
+        }
     };
-    match Connection::open_files(alloc, files, options) {
-        Ok(connection) => Ok(connection),
-        Err((_, unopened)) => Err(both_held(rt, alloc, unopened.into_files(), left)),
+    connection.into_store()
+}
+
+// Does a task with a store over files, unless they stop before that is there. The files then. No other function speaks of a connection to files, since each
+// that does takes as long to prove as ten others; over files of any type it takes less than over those in memory.
+fn perform_over_files<D: Disk + Drop>(
+    rt: &impl Abort,
+    scene: &mut Scene,
+    task: Task,
+    files: Files<D>,
+) -> Files<D> {
+    assert!(rt; files.may_be_used());
+    match Connection::open_files(scene.alloc, files, OPTIONS) {
+        Ok(connection) => perform_over(rt, scene, task, connection).close(),
+        Err((_, unopened)) => {
+            scene.halt = Some(Halt::Opening);
+            unopened.into_files()
+        }
     }
 }
 
-fn adopted(
-    rt: &impl Abort,
-    alloc: Global,
-    connection: Connection<FileStore<File>>,
-    left: Left,
-) -> Result<Store, Octets> {
-    match SqlStore::adopt(alloc, connection) {
-        Ok(store) => Ok(store),
-        Err((_, connection)) => Err(octets_of(rt, alloc, connection, left)),
-    }
-}
-
-// A store over files that hold these octets; or what they hold, if they stop before it is there.
-pub fn store_over(
-    rt: &impl Abort,
-    alloc: Global,
-    octets: &Octets,
-    fuses: Fuses,
-    left: Left,
-) -> Result<Store, Octets> {
-    let files = files(rt, alloc, octets, fuses);
-    match connected(rt, alloc, files, left) {
-        Ok(connection) => adopted(rt, alloc, connection, left),
-        Err(octets) => Err(octets),
-    }
+// Does a task with a store over the files of a scene, which pass so many calls on. They hold then what is left of them.
+pub fn perform_on_files(rt: &impl Abort, scene: &mut Scene, task: Task, fuses: Fuses, left: Left) {
+    let alloc = scene.alloc;
+    let files = Files {
+        log: file(rt, alloc, &scene.octets.log, fuses.0),
+        db: file(rt, alloc, &scene.octets.database, fuses.1),
+    };
+    let files = perform_over_files(rt, scene, task, files);
+    scene.octets = both_held(rt, alloc, files, left);
 }

@@ -46,12 +46,13 @@ fn settle<S: StableStore>(rt: &impl Abort, scene: &mut Scene, watched: &mut Node
             return;
         };
         come(rt, scene, watched, &packet);
+        drop(packet);
     }
     panic!(rt; "too many packets");
 }
 
 // What a line says comes: `settle`, or an input with its node behind its word.
-pub fn hand<S: StableStore>(rt: &impl Abort, scene: &mut Scene, watched: &mut Node<S>, line: &str) {
+fn hand<S: StableStore>(rt: &impl Abort, scene: &mut Scene, watched: &mut Node<S>, line: &str) {
     scene.begin_line();
     let (word, rest) = line.split_once(' ').unwrap_or((line, ""));
     if word == "settle" {
@@ -61,6 +62,18 @@ pub fn hand<S: StableStore>(rt: &impl Abort, scene: &mut Scene, watched: &mut No
     let [number, ..] = numbers(number).expect(rt, "a node");
     let input = scene.input(rt, word, rest);
     take(rt, scene, watched, number, input);
+}
+
+// What these lines say comes, one behind the other.
+pub fn hand_all<S: StableStore>(
+    rt: &impl Abort,
+    scene: &mut Scene,
+    watched: &mut Node<S>,
+    lines: &str,
+) {
+    for line in lines.lines() {
+        hand(rt, scene, watched, line);
+    }
 }
 
 // Hands the rows in that were not played yet, up to the one at which the watched node stops. What that row tells at a node alone is not looked at.

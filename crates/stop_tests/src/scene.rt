@@ -1,5 +1,6 @@
 //! What surrounds the node that is watched.
 
+use crate::files::Octets;
 use crate::inputs::input;
 use crate::play::Play;
 use crate::same::assert_same;
@@ -10,7 +11,7 @@ use stable_store::{FailingStore, Found, ListStore, StableStore};
 use std::alloc::Global;
 use std::collections::VecDeque;
 use std::process::Abort;
-use synod_acceptor::Packet;
+use synod_acceptor::{Packet, Record};
 
 // That a save failed, and that one failed before.
 const STOPPED: Answer = ("Uncommitted", [4, 0, 0, 0]);
@@ -24,7 +25,7 @@ pub enum Halt {
     Saving(u64),
 }
 
-// The other nodes, which never stop, the packets that came to no node yet, and what was told since the last line.
+// The other nodes, which never stop, the packets that came to no node yet, what was told since the last line, and what the files of the watched node hold.
 #[derive(Drop)]
 pub struct Scene {
     pub alloc: Global,
@@ -42,6 +43,10 @@ pub struct Scene {
     pub halt: Option<Halt>,
     // Whether a message was accepted.
     pub is_taken: bool,
+    pub octets: Octets,
+    // The records that were loaded last, and the incarnation in which the watched node started anew; 0 as long as it did not.
+    pub records: Vec<Record>,
+    pub incarnation: u16,
 }
 
 // A node of so many.
@@ -56,7 +61,7 @@ pub fn list(alloc: Global, save: u64, found: Found) -> FailingStore {
 }
 
 // A node that opens over a store.
-pub fn opened<S: StableStore + Drop>(
+pub fn opened<S: StableStore>(
     rt: &impl Abort,
     alloc: Global,
     store: S,
@@ -94,6 +99,9 @@ impl Scene {
             steps: 0,
             halt: None,
             is_taken: false,
+            octets: Octets::none(alloc),
+            records: Vec::new(alloc),
+            incarnation: 0,
         }
     }
 
@@ -137,8 +145,12 @@ impl Scene {
 
     // The numbers that were told with this word by the last line.
     pub fn said(&self, word: &str) -> Option<[u64; 4]> {
-        let (_, numbers) = self.told.iter().find(|told| told.0 == word)?;
-        Some(*numbers)
+        for (said, numbers) in &self.told {
+            if *said == word {
+                return Some(*numbers);
+            }
+        }
+        None
     }
 
     // That the last line told what stands behind the arrow of a row, or nothing if there is none.

@@ -1,6 +1,6 @@
 //! The saves of a play in which the watched node may stop, as nodes over lists make them.
 
-use crate::lives::first_life;
+use crate::lives::{Task, perform};
 use crate::play::Play;
 use crate::scene::{Halt, Scene, list};
 use stable_store::{Found, StableStore};
@@ -37,25 +37,55 @@ fn is_same(one: &Record, other: &Record) -> bool {
 
 // The first of its slot.
 fn first<'a>(records: &'a [Record], record: &Record) -> Option<&'a Record> {
-    records.iter().find(|one| one.slot() == record.slot())
+    for one in records {
+        if one.slot() == record.slot() {
+            return Some(one);
+        }
+    }
+    None
 }
 
 // Whether the first record of this one's slot is the same as this one.
 fn has(records: &[Record], record: &Record) -> bool {
-    first(records, record).is_some_and(|one| is_same(one, record))
+    match first(records, record) {
+        Some(one) => is_same(one, record),
+        None => false,
+    }
 }
 
 fn is_alone(records: &[Record], record: &Record) -> bool {
-    let count = records.iter().filter(|one| one.slot() == record.slot());
-    count.count() == 1
+    let mut count = 0_usize;
+    for one in records {
+        if one.slot() == record.slot() {
+            count = count.saturating_add(1);
+        }
+    }
+    count == 1
+}
+
+// Whether each of these is there once, and is the newest of its slot in a list.
+fn are_newest(found: &[Record], listed: &[Record]) -> bool {
+    for one in found {
+        if !is_alone(found, one) || !has(listed, one) {
+            return false;
+        }
+    }
+    true
+}
+
+// Whether there is one of each slot of a list.
+fn are_all(found: &[Record], listed: &[Record]) -> bool {
+    for one in listed {
+        if first(found, one).is_none() {
+            return false;
+        }
+    }
+    true
 }
 
 // Whether these are the newest records of a list, each once, in any order.
 fn are_same(found: &[Record], listed: &[Record]) -> bool {
-    found
-        .iter()
-        .all(|one| is_alone(found, one) && has(listed, one))
-        && listed.iter().all(|one| first(found, one).is_some())
+    are_newest(found, listed) && are_all(found, listed)
 }
 
 // The last save, in which the watched node would stop after all others.
@@ -65,37 +95,44 @@ pub fn last_save(rt: &impl Abort, stops: &[Stop]) -> Halt {
 
 // The stop that comes after so many steps.
 pub fn stop_after<'a>(rt: &impl Abort, stops: &'a [Stop], steps: u64) -> &'a Stop {
-    let stop = stops.iter().find(|stop| stop.steps == steps);
-    stop.expect(rt, "a step that saves")
-}
-
-// After how many steps the watched node stops whose save of this number fails; none if it makes fewer saves.
-fn steps_before(rt: &impl Abort, alloc: Global, play: Play, save: u64) -> Option<u64> {
-    let mut scene = Scene::make(rt, alloc, play);
-    drop(first_life(rt, &mut scene, list(alloc, save, Found::Before)));
-    match scene.halt {
-        Some(Halt::Saving(steps)) => Some(steps),
-        _ => None,
+    for stop in stops {
+        if stop.steps == steps {
+            return stop;
+        }
     }
+    panic!(rt; "a step that saves");
 }
 
-fn records(rt: &impl Abort, alloc: Global, play: Play, save: u64, found: Found) -> Vec<Record> {
+// When the watched node stops over a list whose save of this number fails and leaves this, if it does, and the records of the list then.
+fn listed(
+    rt: &impl Abort,
+    alloc: Global,
+    play: Play,
+    save: u64,
+    found: Found,
+) -> (Option<Halt>, Vec<Record>) {
     let mut scene = Scene::make(rt, alloc, play);
-    let mut store = first_life(rt, &mut scene, list(alloc, save, found));
-    store.load().expect(rt, "records")
+    let mut store = perform(rt, &mut scene, list(alloc, save, found), Task::Play);
+    let records = store.load().expect(rt, "records");
+    drop(store);
+    let halt = scene.halt;
+    drop(scene);
+    (halt, records)
 }
 
 // All saves of the watched node.
 pub fn stops(rt: &impl Abort, alloc: Global, play: Play) -> Vec<Stop> {
     let mut stops = Vec::new(alloc);
     for save in 1..MOST {
-        let Some(steps) = steps_before(rt, alloc, play, save) else {
+        let (halt, before) = listed(rt, alloc, play, save, Found::Before);
+        let Some(Halt::Saving(steps)) = halt else {
             return stops;
         };
+        let (_, after) = listed(rt, alloc, play, save, Found::After);
         let stop = Stop {
             steps,
-            before: records(rt, alloc, play, save, Found::Before),
-            after: records(rt, alloc, play, save, Found::After),
+            before,
+            after,
         };
         stops.push(stop).expect(rt, "memory");
     }

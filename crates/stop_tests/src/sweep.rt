@@ -1,12 +1,11 @@
 //! A play over files that stop.
 
-use crate::files::{ENDLESS, Fuses, Left, Octets, Store, left_by, store_over};
-use crate::lives::{first_life, second_life};
+use crate::files::{ENDLESS, Fuses, Left, perform_on_files};
+use crate::lives::Task;
 use crate::play::Play;
 use crate::scene::{Halt, Scene};
 use crate::stops::{Stop, found_at, last_save, stop_after};
-use stable_store::{Found, StableStore};
-use std::alloc::Global;
+use stable_store::Found;
 use std::process::Abort;
 
 // Which of the two files stop.
@@ -31,31 +30,18 @@ fn assert_incarnation(rt: &impl Abort, halt: Halt, incarnation: u16) {
     assert!(rt; is_first || incarnation == 2);
 }
 
-// That a store which was opened again holds no record if the node stopped while it opened, and else those from before the save in which it
+// That a store which was opened again held no record if the node stopped while it opened, and else those from before the save in which it
 // stopped, or those from after it. Which of these, if it stopped in a save.
-fn found_in<S: StableStore>(
-    rt: &impl Abort,
-    store: &mut S,
-    halt: Halt,
-    stops: &[Stop],
-) -> Option<Found> {
-    let records = store.load().expect(rt, "records");
+fn found_in(rt: &impl Abort, scene: &Scene, halt: Halt, stops: &[Stop]) -> Option<Found> {
     match halt {
         Halt::Opening => {
-            assert!(rt; records.is_empty());
+            assert!(rt; scene.records.is_empty());
             None
         }
         Halt::Saving(steps) => {
-            let found = found_at(stop_after(rt, stops, steps), &records);
+            let found = found_at(stop_after(rt, stops, steps), &scene.records);
             Some(found.expect(rt, "records from before the save or after it"))
         }
-    }
-}
-
-fn opened_again(rt: &impl Abort, alloc: Global, octets: &Octets, left: Left) -> Store {
-    match store_over(rt, alloc, octets, ENDLESS, left) {
-        Ok(store) => store,
-        Err(_) => panic!(rt; "a store"),
     }
 }
 
@@ -68,24 +54,22 @@ impl Sweep {
         }
     }
 
-    // The watched node plays over new files that stop after so many calls, until it stops, or to the end. What its files hold then.
-    pub fn stopped(self, rt: &impl Abort, scene: &mut Scene, calls: u64) -> Octets {
-        let alloc = scene.alloc;
-        let none = Octets::none(alloc);
-        match store_over(rt, alloc, &none, self.fuses(calls), self.left) {
-            Ok(store) => left_by(rt, alloc, first_life(rt, scene, store), self.left),
-            Err(octets) => {
-                scene.halt = Some(Halt::Opening);
-                octets
-            }
-        }
+    // The watched node plays over new files that stop after so many calls, until it stops, or to the end. When it stopped.
+    pub fn stopped(self, rt: &impl Abort, scene: &mut Scene, calls: u64) -> Option<Halt> {
+        perform_on_files(rt, scene, Task::Play, self.fuses(calls), self.left);
+        scene.halt.take()
+    }
+
+    // Does a task with a store over the files of a node that stopped or came to the end. They stop no more.
+    fn perform(self, rt: &impl Abort, scene: &mut Scene, task: Task) {
+        perform_on_files(rt, scene, task, ENDLESS, self.left);
+        assert!(rt; scene.halt.is_none());
     }
 
     // That the files of a node which did not stop hold what its last save left.
-    pub fn assert_whole(self, rt: &impl Abort, alloc: Global, octets: &Octets, stops: &[Stop]) {
-        let mut store = opened_again(rt, alloc, octets, self.left);
-        let found = found_in(rt, &mut store, last_save(rt, stops), stops);
-        drop(store);
+    pub fn assert_whole(self, rt: &impl Abort, scene: &mut Scene, stops: &[Stop]) {
+        self.perform(rt, scene, Task::Load);
+        let found = found_in(rt, scene, last_save(rt, stops), stops);
         assert!(rt; found == Some(Found::After));
     }
 
@@ -94,13 +78,11 @@ impl Sweep {
         self,
         rt: &impl Abort,
         scene: &mut Scene,
-        octets: &Octets,
-        (halt, stops): (Halt, &[Stop]),
+        halt: Halt,
+        stops: &[Stop],
     ) -> Option<Found> {
-        let mut store = opened_again(rt, scene.alloc, octets, self.left);
-        let found = found_in(rt, &mut store, halt, stops);
-        let incarnation = second_life(rt, scene, store);
-        assert_incarnation(rt, halt, incarnation);
-        found
+        self.perform(rt, scene, Task::End);
+        assert_incarnation(rt, halt, scene.incarnation);
+        found_in(rt, scene, halt, stops)
     }
 }

@@ -55,15 +55,15 @@ fn run(
     seen: &mut Seen,
 ) -> bool {
     let mut scene = Scene::make(rt, alloc, sweep.play);
-    let octets = sweep.stopped(rt, &mut scene, calls);
-    let halt = scene.halt;
+    let halt = sweep.stopped(rt, &mut scene, calls);
     match halt {
         Some(halt) => {
-            let found = sweep.ended(rt, &mut scene, &octets, (halt, stops));
+            let found = sweep.ended(rt, &mut scene, halt, stops);
             seen.note(halt, found);
         }
-        None => sweep.assert_whole(rt, alloc, &octets, stops),
+        None => sweep.assert_whole(rt, &mut scene, stops),
     }
+    drop(scene);
     halt.is_some()
 }
 
@@ -90,12 +90,14 @@ fn assert_seen(rt: &impl Abort, alloc: Global, sweep: Sweep, stops: &[Stop]) {
     }
 }
 
+const STOPPING: &[Stopping] = &[Stopping::Both, Stopping::Log, Stopping::Database];
+
 fn assert_swept(rt: &impl Abort, alloc: Global, play: Play, left: Left) {
     let stops = stops(rt, alloc, play);
-    for stopping in [Stopping::Both, Stopping::Log, Stopping::Database] {
+    for stopping in STOPPING {
         let sweep = Sweep {
             play,
-            stopping,
+            stopping: *stopping,
             left,
         };
         assert_seen(rt, alloc, sweep, &stops);
