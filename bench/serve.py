@@ -20,6 +20,9 @@ to a file, without a wait for the disk. So it agrees on nothing and tries nothin
 Then come delays: over three nodes a client at each submits ten messages a second, one behind the other, which go to itself. Printed are the median and the 99th
 percentile of the milliseconds from a submit_sm to its response, and to the deliver_sm.
 
+Then what waits for others: at one node in memory 20,000 and 90,000 messages wait for an account that is away, or whose ESME takes ten and answers none. Printed
+are the messages of another account that are delivered a second meanwhile, of 2,000, and the 99th percentile of the answers to their submit_sm.
+
 Last come the fdatasync and fsync that `serve` itself makes for a message, by strace, in runs of their own (if strace is there).
 """
 import argparse
@@ -45,19 +48,21 @@ MESSAGES, MOST_MESSAGES = 1_000, 50_000
 SECONDS = 120
 NODES = (1, 3, 9)
 DELAY_NODES, DELAY_SECONDS = 3, 20
+WAITING, WAITING_MESSAGES = (0, 20_000, 90_000), 2_000
 SYNCS, SYNC_SECONDS = 500, 2
 SYNC = re.compile(r"\b(?:fdatasync|fsync)\(")
 PART = re.compile(r"part \d+: .*, closed in (\d+) ms")
 
 
 def write_config(folder, nodes, over_files):
-    """Writes the configuration, and gives the ports of its nodes."""
+    """Writes the configuration, and gives the ports of its nodes. There are nine accounts, whatever the nodes."""
     ports = free_ports(nodes)
     lines = ['system_id = "CENTRE"']
     for node, port in enumerate(ports, 1):
         lines += ["[[node]]", f"number = {node}", f'listen = "127.0.0.1:{port}"'] + over_files * [f'store = "{folder}/{node}.db"']
-        lines += ["[[account]]", f'system_id = "load{node}"', 'password = "load"', "transmit = true", "receive = true"]
-        lines += ["[[route]]", f'prefix = "{node}"', f'account = "load{node}"']
+    for account in range(1, 10):
+        lines += ["[[account]]", f'system_id = "load{account}"', 'password = "load"', "transmit = true", "receive = true"]
+        lines += ["[[route]]", f'prefix = "{account}"', f'account = "load{account}"']
     (folder / "centre.toml").write_text("\n".join(lines) + "\n")
     return ports
 
@@ -93,26 +98,27 @@ class Steady:
 
 
 class Client:
-    """One client: how many of its messages were sent, answered and delivered, and when the last was."""
+    """One client: how many of its messages were sent, answered and delivered, and how long the answers took."""
 
-    def __init__(self, port, messages, account, password, destination):
-        self.esme, self.left, self.open = Esme(port), messages, set()
-        self.wanted, self.answered, self.refused = messages, 0, 0
+    def __init__(self, port, messages, account, password, destination, command=pdus.BIND_TRANSCEIVER):
+        self.esme, self.left, self.open = Esme(port), messages, {}
+        self.wanted, self.answered, self.refused, self.delays = messages, 0, 0, []
         self.body = pdus.message_body(b"a message of the load test", source="144", destination=destination)
-        found = self.esme.bind(account, password)
+        found = self.esme.bind(account, password, command)
         if found is None or found.status != pdus.OK:
             raise Ended(f"the bind of {account} was answered {found}")
 
     def go_on(self):
         """Takes what was answered, and fills the window."""
+        now = time.monotonic()
         for sequence in [one for one in self.open if one in self.esme.answers]:
-            self.open.remove(sequence)
+            self.delays.append(1e3 * (now - self.open.pop(sequence)))
             self.answered += 1
             self.refused += self.esme.answers.pop(sequence).status != pdus.OK
         room = min(WINDOW - len(self.open), self.left)
         if room:
             frames = [self.esme.framed(pdus.SUBMIT_SM, self.body) for _ in range(room)]
-            self.open.update(range(self.esme.sequence - room + 1, self.esme.sequence + 1))
+            self.open.update(dict.fromkeys(range(self.esme.sequence - room + 1, self.esme.sequence + 1), now))
             self.left -= room
             self.esme.send(b"".join(frames))
 
@@ -202,6 +208,43 @@ def run(program, folder, nodes, over_files, messages):
     if refused or status != 0 or not delivered:
         came = sum(client.delivered() for client in clients)
         print(f"   {refused} submit_sm were refused, {came} messages came, {serving.said()}", flush=True)
+
+
+def fill(port, count):
+    """So many messages wait for the account of the ninth digit."""
+    feeder = Client(port, count, "load9", "load", "955", pdus.BIND_TRANSMITTER)
+
+    def is_done():
+        feeder.go_on()
+        return feeder.answered == count
+    wait([feeder.esme], is_done, SECONDS)
+    if feeder.refused:
+        raise Ended(f"{feeder.refused} of what is to wait was refused")
+    feeder.esme.close()
+
+
+def run_beside_waiting(program, folder, count, is_silent):
+    """A line of the table of what waits for another account: that is away, or bound and answers nothing."""
+    ports = write_config(folder, 1, False)
+    serving = server_of(program, folder, ports)
+    try:
+        if not serving.start():
+            sys.exit(f"{name_of(program)} does not serve: {serving.said()}")
+        with Esme(ports[0]) as silent:
+            silent.status = None
+            if is_silent:
+                silent.bind("load9", "load")
+            fill(ports[0], count)
+            client = Client(ports[0], WAITING_MESSAGES, "load1", "load", "155")
+            _, delivered = load([client])
+        serving.end()
+    except Ended as fault:
+        sys.exit(f"{count} that wait: {fault}; {serving.said()}")
+    finally:
+        serving.kill()
+    delays = sorted(client.delays)
+    late = f"{delays[len(delays) * 99 // 100]:.1f}" if delays else "none came"
+    put(name_of(program), f"{count:,}", "silent" if is_silent else "away", rate(WAITING_MESSAGES, delivered), late)
 
 
 def submit_steadily(clients, seconds):
@@ -323,6 +366,11 @@ def main():
         in_a_folder(lambda folder: run_steadily(program, folder, over_files))
     if plain:
         in_a_folder(lambda folder: run_steadily(plain, folder, False))
+    print("\n| What | Waiting | Their account is | Delivered a second | Answers, 99 %, ms |\n|---|---|---|---|---|", flush=True)
+    for server in (program, plain) if plain else (program,):
+        for count in WAITING:
+            for is_silent in (False, True) if count else (False,):
+                in_a_folder(lambda folder: run_beside_waiting(server, folder, count, is_silent))
     shutil.rmtree(beside)
     if not shutil.which("strace"):
         sys.exit("strace is not here, so the fdatasync of serve are not counted")
