@@ -10,6 +10,7 @@ use node_core::{GrantRefusal, Input, Node, Setup};
 use stable_store::ListStore;
 use std::alloc::Global;
 use std::process::Abort;
+use synod_acceptor::Packet;
 
 // That a node, another one for each part, answers as the rows say.
 fn assert_parts(rt: &impl Abort, alloc: Global, setup: Setup, parts: &str) {
@@ -129,11 +130,17 @@ fn what_goes_out_is_compared_with_other_outputs(rt: HostRuntime) {
     assert_same(&rt, &alike, &[true, false, true, false]);
 }
 
+// The packet that comes by a line.
+fn packet(rt: &impl Abort, alloc: Global, line: &str) -> Packet {
+    match input(rt, alloc, line) {
+        Input::Packet(packet) => packet,
+        _ => panic!(rt; "a packet"),
+    }
+}
+
 // Whether a node takes the step of a packet quietly.
 fn quiet_at(rt: &impl Abort, alloc: Global, node: &mut Node<ListStore>, line: &str) -> bool {
-    let Input::Packet(packet) = input(rt, alloc, line) else {
-        panic!(rt; "a packet");
-    };
+    let packet = packet(rt, alloc, line);
     let taken = node.take_quietly(&packet);
     drop(packet);
     taken

@@ -1,6 +1,6 @@
 //! Rows that stand for no record, and numbers that are no incarnation.
 
-use crate::steps::{Step, assert_in_memory};
+use crate::steps::{Step, assert_steps};
 use stable_store::StoreFault;
 use std::alloc::Global;
 use std::process::Abort;
@@ -74,7 +74,7 @@ const DAMAGED: &[&[&str]] = &[
 
 fn assert_damaged(rt: &impl Abort, alloc: Global, rows: &[&str]) {
     for row in rows {
-        assert_in_memory(rt, alloc, row, &[Step::Runs(row), REFUSED]);
+        assert_steps(rt, alloc, row, &[Step::Runs(row), REFUSED]);
     }
 }
 
@@ -90,12 +90,16 @@ const IN_ORDER: &[Step] = &[
     Step::Runs(
         "INSERT INTO slots VALUES (1000100001, 0, 262161, 262161, x'01000000003b9c50a1000101010001386d438004736d653104736d6531000101033134340101033135350000000100386d4380387138000248690000')",
     ),
-    Step::Loads(Ok(&[(1000100001, 0, 262161, 262161)])),
+    Step::Loads(Ok((
+        1,
+        Some((1000100001, 0, 262161, 262161)),
+        Some((1000100001, 0, 262161, 262161)),
+    ))),
 ];
 
 #[test]
 fn rows_in_order_are_loaded(rt: HostRuntime) {
-    assert_in_memory(&rt, rt.alloc(), "rows in order", IN_ORDER);
+    assert_steps(&rt, rt.alloc(), "rows in order", IN_ORDER);
 }
 
 type Row = (&'static str, Result<u16, StoreFault>);
@@ -120,7 +124,7 @@ const INCARNATIONS: &[Row] = &[
 #[test]
 fn numbers_that_are_no_incarnation_are_refused(rt: HostRuntime) {
     for (text, wanted) in INCARNATIONS {
-        assert_in_memory(
+        assert_steps(
             &rt,
             rt.alloc(),
             text,

@@ -1,6 +1,6 @@
 //! A store in a file.
 
-use crate::steps::{Step, assert_steps};
+use crate::steps::{Saved, Step, assert_opened};
 use sql_store::SqlStore;
 use sqlite::{File, FileStore};
 use stable_store::StoreFault;
@@ -21,17 +21,24 @@ fn open(rt: &HostRuntime) -> Result<SqlStore<FileStore<File>>, StoreFault> {
     SqlStore::open_path(rt, rt.alloc(), PATH)
 }
 
-const FIRST: &[Step] = &[Step::Votes(262161, 262161), Step::Begins(Ok(1))];
+const FIRST: &[Step] = &[
+    Step::Saves(Saved::Vote(262161, 262161)),
+    Step::Begins(Ok(1)),
+];
 
 const SECOND: &[Step] = &[
-    Step::Loads(Ok(&[(1000100001, 0, 262161, 262161)])),
+    Step::Loads(Ok((
+        1,
+        Some((1000100001, 0, 262161, 262161)),
+        Some((1000100001, 0, 262161, 262161)),
+    ))),
     Step::Begins(Ok(2)),
 ];
 
 #[test]
 fn a_file_is_found_again(rt: HostRuntime) {
     remove(&rt);
-    assert_steps(&rt, rt.alloc(), open(&rt), "a new file", FIRST);
-    assert_steps(&rt, rt.alloc(), open(&rt), "the same file", SECOND);
+    assert_opened(&rt, rt.alloc(), open(&rt), "a new file", FIRST);
+    assert_opened(&rt, rt.alloc(), open(&rt), "the same file", SECOND);
     remove(&rt);
 }

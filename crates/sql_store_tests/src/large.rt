@@ -1,6 +1,6 @@
 //! A store of many records.
 
-use crate::steps::{Step, assert_in_memory};
+use crate::steps::{Step, assert_steps};
 
 // A promise in the first place of the first message; then in 256 places of it, and then in those of 80 messages.
 const MANY: &[Step] = &[
@@ -22,14 +22,14 @@ const MANY: &[Step] = &[
     Step::Runs(
         "INSERT INTO slots SELECT id + 64, place, promised, voted, chain FROM slots WHERE id <= 1000100016",
     ),
-    Step::Holds(
+    Step::Loads(Ok((
         20480,
         Some((1000100001, 0, 262161, 0)),
         Some((1000100080, 255, 262161, 0)),
-    ),
+    ))),
 ];
 
 #[test]
 fn a_store_of_20480_records_is_loaded_whole(rt: HostRuntime) {
-    assert_in_memory(&rt, rt.alloc(), "20,480 records", MANY);
+    assert_steps(&rt, rt.alloc(), "20,480 records", MANY);
 }

@@ -1,7 +1,7 @@
 //! What a store says of itself.
 
 use crate::same::assert_same;
-use crate::steps::{Step, played};
+use crate::steps::{Saved, Step, played};
 use sql_store::{Said, SqlStore, WhoseRow};
 use sqlite::Alter;
 use stable_store::StoreFault;
@@ -18,7 +18,7 @@ const OURS: WhoseRow = WhoseRow {
 // It says whose it is once it is marked, and its records and its incarnation stay.
 const MARKED: &[Step] = &[
     Step::Begins(Ok(1)),
-    Step::Promises(1000100001, 3, 262161),
+    Step::Saves(Saved::Promise(1000100001, 3, 262161)),
     Step::Says(Said {
         whose: None,
         last: Some(1),
@@ -28,7 +28,11 @@ const MARKED: &[Step] = &[
         whose: Some(OURS),
         last: Some(1),
     }),
-    Step::Loads(Ok(&[(1000100001, 3, 262161, 0)])),
+    Step::Loads(Ok((
+        1,
+        Some((1000100001, 3, 262161, 0)),
+        Some((1000100001, 3, 262161, 0)),
+    ))),
     Step::Begins(Ok(2)),
 ];
 

@@ -2,7 +2,7 @@
 
 use crate::same::assert_same;
 use fate_chain::Chain;
-use mc_types::{Ballot, MsgId, Slot};
+use mc_types::{Ballot, Incarnation, MsgId, Slot};
 use sql_store::{Said, SqlStore, WhoseRow};
 use sqlite::{Alter, Connection};
 use stable_store::{StableStore, StoreFault};
@@ -17,24 +17,28 @@ const TAKEN: &[u8] =
 // What is loaded of a record: the id and the place of its slot, its promise, and the ballot of its vote or 0.
 pub type Loaded = (u64, u8, u64, u64);
 
+// How many records are loaded, the first and the last; or the fault.
+pub type Loading = Result<(usize, Option<Loaded>, Option<Loaded>), StoreFault>;
+
+// What is saved.
+#[derive(Clone, Copy)]
+pub enum Saved {
+    // A promise in the slot of this message and place, in which nothing was voted.
+    Promise(u64, u8, u64),
+    // A vote for the chain of one Taken, below this promise.
+    Vote(u64, u64),
+}
+
 // What is done, and what that answers.
 #[derive(Clone, Copy)]
 pub enum Step<'a> {
     // The connection of the store is adopted again, once this statement was run there.
     Runs(&'a str),
     IsAdopted,
-    // A promise in the slot of this message and place, in which nothing was voted, is saved.
-    Promises(u64, u8, u64),
-    // A vote for the chain of one Taken, below this promise, is saved.
-    Votes(u64, u64),
-    // The first three records that are loaded, or the fault.
-    Loads(Result<&'a [Loaded], StoreFault>),
-    // How many records are loaded, the first and the last.
-    Holds(usize, Option<Loaded>, Option<Loaded>),
-    // The incarnation that begins, or the fault.
+    Saves(Saved),
+    Loads(Loading),
+    // The incarnation that begins, or the fault. No failure was counted.
     Begins(Result<u16, StoreFault>),
-    // How many failures it counted.
-    Failed(u64),
     Says(Said),
     IsMarked(WhoseRow),
 }
@@ -43,29 +47,35 @@ fn ballot(rt: &impl Abort, number: u64) -> Ballot {
     Ballot::of_number(number).expect(rt, "a ballot")
 }
 
-fn change(rt: &impl Abort, promised: u64, report: Report) -> Change {
+fn report(rt: &impl Abort, alloc: Global, saved: Saved) -> Report {
+    match saved {
+        Saved::Promise(id, place, _) => {
+            let id = MsgId::of_number(id).expect(rt, "an id");
+            Report::Nothing(Slot { id, place })
+        }
+        Saved::Vote(_, voted) => {
+            let chain = Chain::read(alloc, TAKEN).expect(rt, "a chain");
+            let ballot = ballot(rt, voted);
+            Report::Held(Vote { ballot, chain })
+        }
+    }
+}
+
+fn change(rt: &impl Abort, alloc: Global, saved: Saved) -> Change {
+    let (Saved::Promise(_, _, promised) | Saved::Vote(promised, _)) = saved;
+    let report = report(rt, alloc, saved);
     let after = Record::make(ballot(rt, promised), report).expect(rt, "a record in order");
     Change { after }
-}
-
-fn promise(rt: &impl Abort, id: u64, place: u8, promised: u64) -> Change {
-    let id = MsgId::of_number(id).expect(rt, "an id");
-    change(rt, promised, Report::Nothing(Slot { id, place }))
-}
-
-fn vote(rt: &impl Abort, alloc: Global, promised: u64, voted: u64) -> Change {
-    let chain = Chain::read(alloc, TAKEN).expect(rt, "a chain");
-    let ballot = ballot(rt, voted);
-    change(rt, promised, Report::Held(Vote { ballot, chain }))
 }
 
 fn fault_of_save<S: Alter>(store: &mut SqlStore<S>, change: Change) -> Option<StoreFault> {
     store.save(&change).err()
 }
 
-fn next<S: Alter>(store: &mut SqlStore<S>) -> Result<u16, StoreFault> {
-    let next = store.next_incarnation()?;
-    Ok(next.number())
+// The incarnation that begins, and how many failures were counted.
+fn next<S: Alter>(store: &mut SqlStore<S>) -> (Result<u16, StoreFault>, u64) {
+    let next = store.next_incarnation().map(Incarnation::number);
+    (next, store.failures())
 }
 
 fn loaded_of(record: &Record) -> Loaded {
@@ -82,21 +92,11 @@ fn loaded_of(record: &Record) -> Loaded {
     )
 }
 
-type FirstThree = [Option<Loaded>; 3];
-
-// The first three records that are loaded, how many there are, and the last.
-type Records = (FirstThree, (usize, Option<Loaded>));
-
-fn load<S: Alter>(store: &mut SqlStore<S>) -> Result<Records, StoreFault> {
+fn load<S: Alter>(store: &mut SqlStore<S>) -> Loading {
     let records = store.load()?;
-    let at = |place: usize| records.get(place).map(loaded_of);
+    let first = records.first().map(loaded_of);
     let last = records.last().map(loaded_of);
-    Ok(([at(0), at(1), at(2)], (records.len(), last)))
-}
-
-fn first_three(records: &[Loaded]) -> FirstThree {
-    let at = |place: usize| records.get(place).copied();
-    [at(0), at(1), at(2)]
+    Ok((records.len(), first, last))
 }
 
 // Where a step stands: the name of its row, and its number.
@@ -111,29 +111,17 @@ fn take<S: Alter>(
     step: Step<'_>,
 ) {
     match step {
-        Step::Promises(id, place, promised) => {
-            let fault = fault_of_save(store, promise(rt, id, place, promised));
+        Step::Saves(saved) => {
+            let fault = fault_of_save(store, change(rt, alloc, saved));
             assert_same(rt, &(at, fault), &(at, None));
         }
-        Step::Votes(promised, voted) => {
-            let fault = fault_of_save(store, vote(rt, alloc, promised, voted));
-            assert_same(rt, &(at, fault), &(at, None));
-        }
-        Step::Loads(wanted) => {
-            let first = load(store).map(|(first, _)| first);
-            assert_same(rt, &(at, first), &(at, wanted.map(first_three)));
-        }
-        Step::Holds(count, first, last) => {
-            let found = load(store).map(|([first, ..], (count, last))| (count, first, last));
-            assert_same(rt, &(at, found), &(at, Ok((count, first, last))));
-        }
-        Step::Begins(wanted) => assert_same(rt, &(at, next(store)), &(at, wanted)),
-        Step::Failed(wanted) => assert_same(rt, &(at, store.failures()), &(at, wanted)),
+        Step::Loads(wanted) => assert_same(rt, &(at, load(store)), &(at, wanted)),
+        Step::Begins(wanted) => assert_same(rt, &(at, next(store)), &(at, (wanted, 0))),
         _ => {}
     }
 }
 
-fn adopt<S: Alter + Drop>(rt: &impl Abort, alloc: Global, conn: Connection<S>) -> SqlStore<S> {
+pub fn adopt<S: Alter + Drop>(rt: &impl Abort, alloc: Global, conn: Connection<S>) -> SqlStore<S> {
     let adopted = SqlStore::adopt(alloc, conn);
     adopted.ok().expect(rt, "a store")
 }
@@ -197,7 +185,7 @@ pub fn played<S: Alter + Drop>(
 }
 
 // That the steps of a row answer over a store that was opened what they are to answer.
-pub fn assert_steps<S: Alter + Drop>(
+pub fn assert_opened<S: Alter + Drop>(
     rt: &impl Abort,
     alloc: Global,
     opened: Result<SqlStore<S>, StoreFault>,
@@ -209,6 +197,6 @@ pub fn assert_steps<S: Alter + Drop>(
 }
 
 // The same over a new store in memory.
-pub fn assert_in_memory(rt: &impl Abort, alloc: Global, name: &str, steps: &[Step<'_>]) {
-    assert_steps(rt, alloc, SqlStore::in_memory(alloc), name, steps);
+pub fn assert_steps(rt: &impl Abort, alloc: Global, name: &str, steps: &[Step<'_>]) {
+    assert_opened(rt, alloc, SqlStore::in_memory(alloc), name, steps);
 }

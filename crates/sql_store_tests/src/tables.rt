@@ -1,9 +1,9 @@
 //! Which databases are adopted.
 
 use crate::same::assert_same;
-use crate::steps::{Step, played};
+use crate::steps::{Step, adopt, played};
 use sql_store::SqlStore;
-use sqlite::{Alter, Connection};
+use sqlite::{Alter, Connection, MemStore};
 use stable_store::StoreFault;
 use std::alloc::Global;
 use std::process::Abort;
@@ -18,22 +18,23 @@ const OTHER: &str = "CREATE TABLE other (x)";
 
 const UNCHECKED: &str = "CREATE TABLE life (one INTEGER PRIMARY KEY, incarnation INTEGER NOT NULL)";
 
-// What is done with the store of a database that is adopted; or that it is refused, a statement that is run on the connection that is handed back, and whether
-// it is adopted then.
-#[derive(Clone, Copy)]
-enum Comes {
-    Store(&'static [Step<'static>]),
-    Refusal(&'static str, bool),
+// A new database in which these statements were run.
+fn database(rt: &impl Abort, alloc: Global, texts: &[&str]) -> Connection<MemStore> {
+    let mut conn = Connection::open_in_memory(alloc).expect(rt, "a database");
+    for text in texts {
+        conn.execute(text, &[]).expect(rt, "a statement");
+    }
+    conn
 }
 
-// The statements that make a database, and what comes of it.
-type Row = (&'static [&'static str], Comes);
+// The statements that make a database, and the steps that are taken with the store over it.
+type Adopted = (&'static [&'static str], &'static [Step<'static>]);
 
-const ROWS: &[Row] = &[
+const ADOPTED: &[Adopted] = &[
     // The incarnation is kept if slots are absent.
     (
         &[LIFE, "INSERT INTO life VALUES (1, 5)"],
-        Comes::Store(&[Step::Loads(Ok(&[])), Step::Begins(Ok(6))]),
+        &[Step::Loads(Ok((0, None, None))), Step::Begins(Ok(6))],
     ),
     // The records are kept if life is absent.
     (
@@ -41,34 +42,48 @@ const ROWS: &[Row] = &[
             SLOTS,
             "INSERT INTO slots VALUES (1000100001, 3, 262161, 0, x'')",
         ],
-        Comes::Store(&[
-            Step::Loads(Ok(&[(1000100001, 3, 262161, 0)])),
+        &[
+            Step::Loads(Ok((
+                1,
+                Some((1000100001, 3, 262161, 0)),
+                Some((1000100001, 3, 262161, 0)),
+            ))),
             Step::Begins(Ok(1)),
-        ]),
+        ],
     ),
-    (&[SLOTS, LIFE], Comes::Store(&[])),
-    // A foreign database is refused.
-    (
-        &[OTHER],
-        Comes::Refusal("INSERT INTO other VALUES (1)", false),
-    ),
-    (
-        &[LIFE, SLOTS, OTHER],
-        Comes::Refusal("INSERT INTO other VALUES (1)", false),
-    ),
-    (
-        &[UNCHECKED, SLOTS],
-        Comes::Refusal("INSERT INTO life VALUES (1, 1)", false),
-    ),
-    // A connection in a transaction is handed back.
-    (&["BEGIN"], Comes::Refusal("COMMIT", true)),
+    (&[SLOTS, LIFE], &[]),
 ];
 
-fn run<S: Alter>(rt: &impl Abort, conn: &mut Connection<S>, texts: &[&str]) {
-    for text in texts {
-        conn.execute(text, &[]).expect(rt, "a statement");
+fn assert_adopted<S: Alter + Drop>(
+    rt: &impl Abort,
+    alloc: Global,
+    conn: Connection<S>,
+    (texts, steps): Adopted,
+) {
+    let store = adopt(rt, alloc, conn);
+    let name = texts.last().copied().unwrap_or("an empty database");
+    drop(played(rt, alloc, store, name, steps));
+}
+
+#[test]
+fn absent_tables_are_made(rt: HostRuntime) {
+    let alloc = rt.alloc();
+    for row in ADOPTED {
+        assert_adopted(&rt, alloc, database(&rt, alloc, row.0), *row);
     }
 }
+
+// The statements that make a database, one that is run on the connection once it is refused and handed back, and whether it is adopted then.
+type Refused = (&'static [&'static str], &'static str, bool);
+
+const REFUSED: &[Refused] = &[
+    // Foreign databases.
+    (&[OTHER], "INSERT INTO other VALUES (1)", false),
+    (&[LIFE, SLOTS, OTHER], "INSERT INTO other VALUES (1)", false),
+    (&[UNCHECKED, SLOTS], "INSERT INTO life VALUES (1, 1)", false),
+    // A connection in a transaction.
+    (&["BEGIN"], "COMMIT", true),
+];
 
 // Whether this statement is run on the connection, and whether it is adopted then.
 fn handed_back<S: Alter + Drop>(
@@ -80,47 +95,23 @@ fn handed_back<S: Alter + Drop>(
     (ran, SqlStore::adopt(alloc, conn).is_ok())
 }
 
-// That a connection is refused, or adopted.
 fn assert_refused<S: Alter + Drop>(
     rt: &impl Abort,
     alloc: Global,
-    (fault, conn): (StoreFault, Connection<S>),
-    (texts, comes): Row,
+    conn: Connection<S>,
+    (texts, text, adopted): Refused,
 ) {
-    let Comes::Refusal(text, adopted) = comes else {
-        panic!(rt; "it is adopted");
-    };
-    let (ran, found) = handed_back(alloc, conn, text);
-    let wanted = (StoreFault::Device, true, adopted);
-    assert_same(rt, &(texts, (fault, ran, found)), &(texts, wanted));
-}
-
-fn play<S: Alter + Drop>(rt: &impl Abort, alloc: Global, store: SqlStore<S>, (texts, comes): Row) {
-    let Comes::Store(steps) = comes else {
-        panic!(rt; "it is refused");
-    };
-    let name = texts.last().copied().unwrap_or("an empty database");
-    drop(played(rt, alloc, store, name, steps));
-}
-
-fn assert_comes<S: Alter + Drop>(
-    rt: &impl Abort,
-    alloc: Global,
-    mut conn: Connection<S>,
-    row: Row,
-) {
-    run(rt, &mut conn, row.0);
-    match SqlStore::adopt(alloc, conn) {
-        Ok(store) => play(rt, alloc, store, row),
-        Err(refusal) => assert_refused(rt, alloc, refusal, row),
-    }
+    let refusal = SqlStore::adopt(alloc, conn).err();
+    let (fault, conn) = refusal.expect(rt, "a refusal");
+    let found = (fault, handed_back(alloc, conn, text));
+    let wanted = (StoreFault::Device, (true, adopted));
+    assert_same(rt, &(texts, found), &(texts, wanted));
 }
 
 #[test]
-fn databases_are_adopted_or_refused(rt: HostRuntime) {
+fn foreign_databases_are_refused_and_handed_back(rt: HostRuntime) {
     let alloc = rt.alloc();
-    for row in ROWS {
-        let conn = Connection::open_in_memory(alloc).expect(&rt, "a database");
-        assert_comes(&rt, alloc, conn, *row);
+    for row in REFUSED {
+        assert_refused(&rt, alloc, database(&rt, alloc, row.0), *row);
     }
 }
