@@ -83,10 +83,11 @@ pub(crate) fn tick_on<S: StableStore, L: Begins, R: Wait + Eprint + Clock>(
         shift.shared.house.end.set(shift.rt, Ending::Threads);
         return;
     };
+    let nodes = shift.shared.house.stations.len();
     let mut beat = Beat::begin(shift.rt);
     for _ in shift.rt.forever() {
         wait_for_rounds(shift);
-        beat.pass(shift.rt);
+        beat.pass(shift.rt, nodes);
         let is_at_once = wait_for_turn(shift, &beat);
         start_anew_if_low(shift, &mut beat, is_at_once);
         if shift.is_over() {
