@@ -55,7 +55,9 @@ fn run<S: StableStore + Drop>(rt: &impl Abort, cluster: &mut Cluster<S>, word: &
     }
 }
 
-const OF_ALL: &[&str] = &["settle", "replay", "deliver", "crash"];
+fn is_of_all(word: &str) -> bool {
+    matches!(word, "settle" | "replay" | "deliver" | "crash")
+}
 
 // What comes of a line, and at which node.
 fn played<S: StableStore + Drop>(
@@ -65,11 +67,42 @@ fn played<S: StableStore + Drop>(
     line: &str,
 ) -> (u64, Given) {
     let (word, rest) = line.split_once(' ').unwrap_or((line, ""));
-    if OF_ALL.contains(&word) {
+    if is_of_all(word) {
         run(rt, cluster, word, rest);
         return cluster.told();
     }
     take(rt, cluster, alloc, word, rest)
+}
+
+// What comes by a line, and what it says is told.
+fn parts(line: &str) -> (&str, Option<&str>) {
+    match line.split_once(" => ") {
+        Some((comes, said)) => (comes, Some(said)),
+        None => (line, None),
+    }
+}
+
+// A node, and what it tells.
+fn wanted<'a>(rt: &impl Abort, said: &'a str) -> (u64, (&'a str, [u64; 4])) {
+    let (number, said) = said.split_once(' ').expect(rt, "a node, and what it tells");
+    let [node, ..] = read(rt, number);
+    (node, answer_said(said).expect(rt, "an answer"))
+}
+
+// That a line of a row told what it says, or nothing if it says nothing.
+fn assert_told(
+    rt: &impl Abort,
+    row: (&str, &str),
+    said: Option<&str>,
+    (node, given): (u64, Given),
+) {
+    match said {
+        Some(said) => {
+            let wanted = wanted(rt, said);
+            assert_same(rt, &(row, (node, given.answer)), &(row, wanted));
+        }
+        None => assert_same(rt, &(row, given.told), &(row, NOTHING)),
+    }
 }
 
 // That a line of a row tells what stands behind its arrow, or nothing if there is none.
@@ -77,22 +110,11 @@ fn assert_line<S: StableStore + Drop>(
     rt: &impl Abort,
     cluster: &mut Cluster<S>,
     alloc: Global,
-    (name, line): (&str, &str),
+    row: (&str, &str),
 ) {
-    let Some((comes, said)) = line.split_once(" => ") else {
-        let (_, given) = played(rt, cluster, alloc, line);
-        assert_same(rt, &(name, line, given.told), &(name, line, NOTHING));
-        return;
-    };
-    let (number, said) = said.split_once(' ').expect(rt, "a node, and what it tells");
-    let [wanted, ..] = read(rt, number);
-    let said = answer_said(said).expect(rt, "an answer");
-    let (node, given) = played(rt, cluster, alloc, comes);
-    assert_same(
-        rt,
-        &(name, line, node, given.answer),
-        &(name, line, wanted, said),
-    );
+    let (comes, said) = parts(row.1);
+    let given = played(rt, cluster, alloc, comes);
+    assert_told(rt, row, said, given);
 }
 
 type OnDisk = Cluster<SqlStore<MemStore>>;

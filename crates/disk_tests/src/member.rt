@@ -17,7 +17,7 @@ pub struct Member<S: StableStore> {
 }
 
 // A node that opens over a store.
-pub fn opened_over<S: StableStore + Drop>(
+pub fn opened_over<S: StableStore>(
     rt: &impl Abort,
     alloc: Global,
     store: S,
@@ -35,8 +35,9 @@ fn stop_at<S: StableStore>(rt: &impl Abort, node: &mut Node<S>, packet: Packet, 
         .prepare_step(Input::Packet(packet))
         .expect(rt, "a step");
     if after {
-        let outputs = node.commit(pending).expect(rt, "outputs");
-        drop(outputs);
+        drop(node.commit(pending).expect(rt, "outputs"));
+    } else {
+        drop(pending);
     }
 }
 
@@ -59,6 +60,7 @@ impl<S: StableStore + Drop> Member<S> {
         match &mut self.node {
             Some(node) => step(node, input, left),
             None => {
+                drop(input);
                 let down = ("Down", NOTHING.1);
                 Given {
                     answer: down,
@@ -78,7 +80,7 @@ impl<S: StableStore + Drop> Member<S> {
     // It stops: its store is left.
     fn stop(&mut self, rt: &impl Abort) {
         let node = self.node.take().expect(rt, "a node that is up");
-        self.store = Some(node.into_store());
+        drop(self.store.replace(node.into_store()));
     }
 
     // The store of a node that is down, or stops now.
@@ -91,6 +93,7 @@ impl<S: StableStore + Drop> Member<S> {
 
     // It starts anew over a store.
     pub fn start(&mut self, rt: &impl Abort, alloc: Global, store: S) {
-        self.node = Some(opened_over(rt, alloc, store, self.setup));
+        let node = opened_over(rt, alloc, store, self.setup);
+        drop(self.node.replace(node));
     }
 }
