@@ -163,8 +163,9 @@ class Tries(With):
         self.assertEqual(refused_bodies.judged(["a", "b", "c", "d", "e"]), (False, "b | c | d | e"))
 
     def test_compile_checks(self):
-        with mock.patch.object(compile_checks, "BENEATH", "mc_types"):
-            found = self.outcomes(compile_checks, compile_checks.found(), COMPILER)
+        cases = [case._replace(crate="mc_types") for case in compile_checks.found()]
+        found = self.outcomes(compile_checks, cases, COMPILER)
+        self.assertEqual({case.crate for case in compile_checks.found()}, {"journal_parts", "node_core"})
         self.assertEqual({name for name, outcome in found.items() if outcome.is_refused}, {"life_cloned"})
         self.assertEqual({outcome.said for outcome in found.values()}, {"refused, and right without the defect", "the wrong caller compiles"})
 

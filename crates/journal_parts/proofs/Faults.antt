@@ -1,6 +1,7 @@
 -- Why a step is not prepared.
 use Rattle.std.proofs.Common.{◌≡◌, Bool, true, false, Option, Some, None, Result, Ok, Err, IfErr, IsErrAnd, IsErrOf, if◌then◌else◌}
 use Rattle.std.proofs.Common.{refl, sym, ap, subst, ◌∙◌, arith}
+use Rattle.std.specs.Prelude.{◌↔◌}
 use Rattle.node_core.specs.Keeping.{kept_of}
 use Rattle.node_core.specs.Input.{Input as Given}
 use Rattle.node_core.specs.Input.TheVariants as given
@@ -91,3 +92,12 @@ pub broken_told : {A : Type 0} (result : Result A Refusal) (fault : StepFault) �
 broken_told (Ok a) fault told is = absurd (cc)
 broken_told (Err refusal) fault told is =
     let same : refusal ≡ refusals.Broken = cc in broken_as fault (sym told ∙ same)
+
+-- NoSuchPacket is not told for want of memory.
+pub absent_not_told : {A : Type 0} (result : Result A Refusal) (Absent : Type 0) → IsErrAnd result (λ told. told ≡ refusals.Memory) → (Absent → ⊥) →
+    (IsErrOf result refusals.NoSuchPacket ↔ Absent)
+absent_not_told (Ok a) Absent told not = absurd told
+absent_not_told (Err refusal) Absent told not = (
+  (λ is. let same : refusal ≡ refusals.NoSuchPacket = cc in let other : refusals.Memory ≡ refusals.NoSuchPacket = sym told ∙ same in absurd cc),
+  (λ absent. absurd (not absent)),
+)

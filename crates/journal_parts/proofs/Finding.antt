@@ -1,6 +1,6 @@
 -- Which packet has a number.
 use Rattle.std.proofs.Common.{◌≡◌, ℕ, zero, suc, ◌+◌, ◌-◌, ◌<◌, ◌≤◌, Bool, true, false, cond, List, [], ◌∷◌, ◌++◌, length, get_or, find}
-use Rattle.std.proofs.Common.{Bor, Option, Some, None, IfSome, IfNone, IsNone, option_map, refl, sym, ap, subst, ◌∙◌, inl, inr, arith}
+use Rattle.std.proofs.Common.{Bor, Option, Some, None, IfSome, IfNone, IsNone, IsSome, option_map, refl, sym, ap, subst, ◌∙◌, inl, inr, arith}
 use Rattle.std.proofs.Common.{eq-eqb, lt-ltb, ltb-false, ltb-true, ne_eqb}
 use Rattle.std.specs.Prelude.{◌==◌, ◌↔◌, if◌then◌else◌, nat_lt, slice_get}
 use Rattle.std.specs.List.Sorted.{IsNonDecreasingBy, IsPartitionPoint, IsPartitionedBy}
@@ -14,12 +14,13 @@ use Rattle.mc_model.specs.synod.Lists.{In}
 use Rattle.mc_model.specs.synod.Packet.{Packet}
 use Rattle.synod_acceptor.specs.Packets.{packet_of}
 use Rattle.synod_acceptor.specs.declared.packet.Packet.{Packet as Sent}
+use Rattle.world.specs.declared.step.Step.{Step}
 use Rattle.journal_laws.specs.Journals.{Entry, packets_sent}
 use Rattle.journal_parts.specs.declared.carried.Carried.{Carried}
 use Rattle.journal_parts.specs.declared.noted.Noted.{Noted}
-use Rattle.journal_parts.specs.Entries.{entry_of, number_in}
+use Rattle.journal_parts.specs.Entries.{entry_of, number_by, number_in}
 use Rattle.journal_parts.specs.Numbers.{Numbers, RiseWithin}
-use Rattle.journal_parts.specs.Registers.{AreNumbered, ComesAsNumbered, IsAbsent, IsNotCarried, IsNumberedIn, IsUnsent, Registered}
+use Rattle.journal_parts.specs.Registers.{AreNumbered, AsksInVain, ComesAsNumbered, IsAbsent, IsNotCarried, IsNumberedIn, IsUnsent, Registered}
 use Rattle.journal_parts.specs.Registers.{carried_under, count_in, entries_of, packet_under, sent_under}
 use Rattle.journal_parts.proofs.Carrying.{rising}
 use Rattle.journal_parts.proofs.Numbers.{sent_first}
@@ -231,6 +232,15 @@ pub absent_if : {X : Type 0} (numbers : Numbers) (register : Registered) (number
     IfNone found (IsUnsent numbers register.entries number) → IfNone found (IsAbsent numbers register number)
 absent_if numbers register number None none unsent = ((λ one among same. not_carried register.carried number one none among same), unsent)
 absent_if numbers register number (Some x) none unsent = record {}
+
+-- A step that asks for a packet which was found does not ask in vain.
+pub not_in_vain : {X : Type 0} (numbers : Numbers) (register : Registered) (step : Step) (number : ℕ) (found : Option X) → number_by step ≡ Some number →
+    IsSome found → (IsNone found ↔ IsAbsent numbers register number) → AsksInVain numbers register step → ⊥
+not_in_vain numbers register step number None by some none asks = absurd cc
+not_in_vain numbers register step number (Some x) by some none asks =
+    let same : asks.0 ≡ number = same_Some asks.0 number (sym asks.1 ∙ by) in
+    let nothing = none.1 (subst (λ (n : ℕ). IsAbsent numbers register n) same asks.2) in
+    absurd cc
 
 -- ---- the packet that comes by an entry
 

@@ -1,5 +1,5 @@
 -- A node and its own steps, under its lock (own).
-use Rattle.std.specs.Prelude.{◌≡◌, ◌≤◌, ℕ, Bool, false, true, List, Option, Some, None, option_map}
+use Rattle.std.specs.Prelude.{◌≡◌, ◌≤◌, ℕ, Bool, false, true, List, [], ◌∷◌, ◌++◌, Option, Some, None, option_map}
 use Rattle.std.specs.Arc.{arc_value}
 use Rattle.mc_model.specs.synod.Lists.{In}
 use Rattle.mc_model.specs.node.Setup.{Setup}
@@ -62,6 +62,10 @@ pub record IsMember {S : Type 0} (stored : S → Stored) (cluster : Cluster) (ke
   pub ends : Kept
   pub runs : (stored post.node.store).doubt ≡ 0 → IsOwnRun post.node.kept.setup (kept post.node.kept.setup.node) (done_in own) ends
   pub is_end : post.astray ≡ false → ends ≡ kept_of post.node.kept
+
+-- the newest of its own entries
+abbrev pub IsNewest : Entry → List Entry → Type 0
+IsNewest entry own = (before : List Entry) × (own ≡ before ++ entry ∷ [])
 
 -- It is a node of the cluster, and stands where the journal begins.
 pub record IsBeginning {S : Type 0} (cluster : Cluster) (kept : ℕ → Kept) (node : Standing S) : Type 0 where

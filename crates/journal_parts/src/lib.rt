@@ -4,6 +4,7 @@
 mod anew;
 mod begins;
 mod carried;
+mod claim;
 mod coming;
 mod comparing;
 mod copies;
@@ -24,6 +25,7 @@ mod slip;
 pub use anew::Anew;
 pub use begins::Begins;
 pub use carried::Carried;
+pub use claim::Claim;
 pub use copies::EntryCopies;
 pub use done::Done;
 pub use entry::{Entry, Unfinished};

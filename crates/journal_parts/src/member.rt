@@ -7,7 +7,6 @@ ghost use Rattle.node_model.specs.Kept.{message_at};
 ghost use Rattle.node_core.specs.Input.TheVariants as inputs;
 ghost use Rattle.node_core.specs.Permits.{IsAnswered, IsGrant, is_life_of};
 ghost use Rattle.world.specs.declared.step.Step.TheVariants as steps;
-ghost use Rattle.journal_laws.specs.Journals.{IsInRange};
 ghost use Rattle.world.specs.Runs.{node_at};
 ghost use Rattle.node_core.specs.Setups.{IsSetup};
 ghost use Rattle.journal_parts.specs.Entries.{IsAnew, done_of, entry_of, number_by};
@@ -247,13 +246,6 @@ impl<S: StableStore, L: Begins> Member<S, L> {
             return None;
         }
         self.post.node.attempt(id)
-    }
-
-    /// What a proof takes of it: its node is one of the cluster. The call does nothing.
-    pub fn within(&self)
-        ensures { IsInRange L.cluster self.now.post.node.kept.setup.node }
-    {
-        let _astray = self.post.astray;
     }
 
     /// Prepares a start anew: it changes nothing but the room for entries. An `Err` is want of memory.

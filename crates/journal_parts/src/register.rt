@@ -6,10 +6,9 @@ ghost use Rattle.std.specs.Arc.{arc_value};
 ghost use Rattle.std.specs.Option.{option_copied};
 ghost use Rattle.synod_acceptor.specs.Packets.{packet_of};
 ghost use Rattle.mc_model.specs.synod.Lists.{In};
-ghost use Rattle.world.specs.Runs.{node_at};
-ghost use Rattle.journal_laws.specs.Journals.{HasItsNumber, IsInRange};
+ghost use Rattle.journal_laws.specs.Journals.{HasItsNumber};
 ghost use Rattle.journal_parts.specs.Entries.{IsSound, entry_of, number_by};
-ghost use Rattle.journal_parts.specs.Members.{CanBeTaken, IsAct};
+ghost use Rattle.journal_parts.specs.Members.{CanBeTaken, IsAct, IsNewest};
 ghost use Rattle.journal_parts.specs.Numbers.{RiseWithin, none_sent};
 ghost use Rattle.journal_parts.specs.Registers.{AsksInVain, CameFrom, ComesAsNumbered, HasEntered, HasPacket, IsAbsent, IsAskedFor, IsUnsent, MayEnter};
 ghost use Rattle.journal_parts.specs.Registers.{carried_under, packet_under, sent_under};
@@ -18,13 +17,16 @@ ghost use Rattle.journal_parts.specs.declared.refusal.Refusal.TheVariants.{Broke
 
 use crate::begins::Begins;
 use crate::carried::Carried;
+use crate::claim::Claim;
 use crate::copies::EntryCopies;
 use crate::entry::Entry;
 use crate::marks::Marks;
+use crate::member::Member;
 use crate::noted::Noted;
 use crate::refusal::Refusal;
 use crate::seat::Seat;
 use crate::slip::Slip;
+use stable_store::StableStore;
 use std::alloc::{AllocError, Global};
 use std::marker::Model;
 use std::sync::ledger::{Blank, Book, Share};
@@ -145,19 +147,24 @@ impl<L: Begins> Register<L> {
         Some(Seat::of(alloc, self.seats.split_off(1, 0)))
     }
 
-    /// Claims room for the entry of a step, and gives the packet that comes by it, if one does. Full exactly if no room is left; else Broken exactly if the
-    /// node is; else NoSuchPacket exactly if a packet is asked for and none has its number, neither one that an entry sent nor one of an earlier part that
-    /// may still come; else Memory, if there was none for the packet that comes by it. Then nothing is claimed.
-    pub fn admit(&mut self, step: &Step, broken: bool) -> Result<Option<Packet>, Refusal>
+    /// Claims room for the entry of a step, and gives the claim with the packet that comes by the step, if one does. Full exactly if no room is left; else
+    /// Broken exactly if the node is; else NoSuchPacket exactly if a packet is asked for and none has its number, neither one that an entry sent nor one of an
+    /// earlier part that may still come; else Memory, if there was none for the packet that comes by it. Then nothing is claimed.
+    pub fn admit(
+        &mut self,
+        step: &Step,
+        broken: bool,
+    ) -> Result<(Claim<L>, Option<Packet>), Refusal>
         requires { IsAct step.now }
-        ensures packet { IfOk result (CanBeTaken step.now) }
-        ensures asked { IfOk result (IsAskedFor L.numbers self.old.entries step.now) }
+        ensures packet { IfOk result (λ admitted. CanBeTaken step.now admitted.1) }
+        ensures asked { IfOk result (λ admitted. IsAskedFor L.numbers self.old.entries step.now admitted.1) }
         ensures works { OnOk result (broken ≡ false) }
         ensures claims { OnOk result (self.new.claims ≡ self.old.claims + 1) }
         ensures stays { OnErr result (self.new.claims ≡ self.old.claims) }
         ensures full { IsErrOf result Full ↔ (self.old.room ≤ self.old.claims) }
         ensures broken { IsErrOf result Broken ↔ ((self.old.claims < self.old.room) × (broken ≡ true)) }
-        ensures absent { IsErrOf result NoSuchPacket → AsksInVain L.numbers self.old step.now }
+        ensures absent { IsErrOf result NoSuchPacket
+            ↔ ((self.old.claims < self.old.room) × (broken ≡ false) × AsksInVain L.numbers self.old step.now) }
         ensures wants { IsErrOf result Memory → IsSome (number_by step.now) }
         ensures faults { IfErr result (λ refusal. (refusal ≡ Full) ⊎ (refusal ≡ Broken) ⊎ (refusal ≡ NoSuchPacket) ⊎ (refusal ≡ Memory)) }
         ensures entries { self.new.entries ≡ self.old.entries }
@@ -168,11 +175,11 @@ impl<L: Begins> Register<L> {
         self.judge(broken)?;
         let packet = self.packet_by(step)?;
         self.claims += 1;
-        Ok(packet)
+        Ok((Claim::make(), packet))
     }
 
     /// Claims room for the entry of a start anew. Full exactly if no room is left; then nothing is claimed.
-    pub fn admit_anew(&mut self) -> Result<(), Refusal>
+    pub fn admit_anew(&mut self) -> Result<Claim<L>, Refusal>
         ensures claims { OnOk result (self.new.claims ≡ self.old.claims + 1) }
         ensures stays { OnErr result (self.new.claims ≡ self.old.claims) }
         ensures full { IsErrOf result Full ↔ (self.old.room ≤ self.old.claims) }
@@ -184,7 +191,7 @@ impl<L: Begins> Register<L> {
     {
         self.judge(false)?;
         self.claims += 1;
-        Ok(())
+        Ok(Claim::make())
     }
 
     /// Full exactly if there is no room for one more entry behind those that are claimed; else Broken exactly if the node is.
@@ -217,7 +224,7 @@ impl<L: Begins> Register<L> {
         requires { IsAct step.now }
         ensures packet { IfOk result (CanBeTaken step.now) }
         ensures asked { IfOk result (IsAskedFor L.numbers self.now.entries step.now) }
-        ensures absent { IsErrOf result NoSuchPacket → AsksInVain L.numbers self.now step.now }
+        ensures absent { IsErrOf result NoSuchPacket ↔ AsksInVain L.numbers self.now step.now }
         ensures wants { IsErrOf result Memory → IsSome (number_by step.now) }
         ensures faults { IfErr result (λ refusal. (refusal ≡ NoSuchPacket) ⊎ (refusal ≡ Memory)) }
     {
@@ -230,14 +237,15 @@ impl<L: Begins> Register<L> {
         }
     }
 
-    /// Gives a claim back, if there is one.
-    pub fn give_back(&mut self)
+    /// Gives a claim back: its room is free again.
+    pub fn give_back(&mut self, claim: Claim<L>)
         ensures claims { self.new.claims ≡ self.old.claims - 1 }
         ensures entries { self.new.entries ≡ self.old.entries }
         ensures carried { self.new.carried ≡ self.old.carried }
         ensures room { self.new.room ≡ self.old.room }
         ensures seats { self.new.seats ≡ self.old.seats }
     {
+        claim.spend();
         self.claims = self.claims.saturating_sub(1);
     }
 
@@ -298,25 +306,36 @@ impl<L: Begins> Register<L> {
         }
     }
 
-    /// Adds an entry that had a claim, which is spent, and its slip to the seat, and gives the same slip. It is None, and nothing is added, exactly if there is
-    /// no claim, the packet that comes by the entry is not the one that has its number, or a packet would have a number of 2^64 or more. It takes no memory.
-    pub fn enter(&mut self, seat: &mut Seat<L>, copies: EntryCopies) -> Option<Slip>
-        requires node { IsInRange L.cluster (node_at copies.done.step) }
+    /// Adds the newest entry of a node, whose lock is held, and its slip to the seat, and gives the same slip. It is None, and nothing is added, exactly if there
+    /// is no claim, the packet that comes by the entry is not the one that has its number, or a packet would have a number of 2^64 or more. Its claim is spent in
+    /// each case. It takes no memory.
+    pub fn enter<S: StableStore>(
+        &mut self,
+        member: &Member<S, L>,
+        seat: &mut Seat<L>,
+        claim: Claim<L>,
+        copies: EntryCopies,
+    ) -> Option<Slip>
+        requires newest { IsNewest copies member.now.own }
         requires sound { IsSound copies }
         requires room { 1 ≤ seat.old.room }
         ensures entered { IfSome result (HasEntered self.old.entries copies self.new.entries) }
         ensures slips { IfSome result (λ slip. seat.new.slips ≡ seat.old.slips ++ slip ∷ []) }
         ensures may { IsSome result ↔ MayEnter L.numbers self.old copies }
-        ensures none { IfNone result ((self.new ≡ self.old) × (seat.new.slips ≡ seat.old.slips)) }
+        ensures none { IfNone result ((self.new ≡ record self.old { claims = self.old.claims - 1 }) × (seat.new.slips ≡ seat.old.slips)) }
         ensures claims { OnSome result (self.new.claims + 1 ≡ self.old.claims) }
         ensures room { OnSome result (self.new.room + 1 ≡ self.old.room) }
         ensures carried { self.new.carried ≡ self.old.carried }
         ensures seats { self.new.seats ≡ self.old.seats }
     {
+        member.is_own_run();
+        claim.spend();
         if self.claims == 0 {
             return None;
         }
-        if !self.has_sent(&copies.journal) {
+        let comes = self.has_sent(&copies.journal);
+        self.claims -= 1;
+        if !comes {
             return None;
         }
         let before = self.sent;
@@ -326,7 +345,6 @@ impl<L: Begins> Register<L> {
             seat: seated,
             slip,
         } = copies;
-        self.claims -= 1;
         self.sent = sent;
         self.noted.push_reserved(Noted {
             entry: journal,

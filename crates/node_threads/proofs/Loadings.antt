@@ -15,7 +15,7 @@ use Rattle.node_core.specs.Setups.{setup_with}
 use Rattle.journal_parts.proofs.GoingOn.{there_is}
 use Rattle.node_threads.specs.Defaults.{Defaults}
 use Rattle.node_threads.specs.Loadings.{AreLoaded, BeginOver, CantBegin, CantBeginOne, HaveBegun}
-use Rattle.node_threads.specs.Openings.{AreOpened, fault_at}
+use Rattle.node_threads.specs.Openings.{fault_at}
 use Rattle.node_threads.specs.declared.start_fault.StartFault.{StartFault}
 use Rattle.node_threads.specs.declared.start_fault.StartFault.TheVariants as starts
 use Rattle.node_threads.proofs.Openings.{at_end, before_end}

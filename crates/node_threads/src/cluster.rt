@@ -129,10 +129,13 @@ impl<S: StableStore, L: Begins> Cluster<S, L> {
         if !member.is_life(life) {
             return Err(Refusal::StrangeLife);
         }
-        member.within();
-        admitted(rt, member, &self.register, &Step::Grant { node, id })?;
+        let claim = admitted(rt, member, &self.register, &Step::Grant { node, id })?;
         match granted(member, seat, life, id) {
-            Ok((permit, copies)) => match self.register.lock(rt).enter(seat, copies) {
+            Ok((permit, copies)) => match self
+                .register
+                .lock(rt)
+                .enter(member, seat, claim, copies)
+            {
                 Some(slip) => Ok((slip, permit)),
                 None => {
                     permit.abandon();
@@ -140,7 +143,7 @@ impl<S: StableStore, L: Begins> Cluster<S, L> {
                 }
             },
             Err(refusal) => {
-                self.register.lock(rt).give_back();
+                self.register.lock(rt).give_back(claim);
                 Err(refusal)
             }
         }
@@ -205,17 +208,17 @@ impl<S: StableStore, L: Begins> Cluster<S, L> {
         if !member.is_life(&life) {
             return Err((Refusal::StrangeLife, life));
         }
-        member.within();
-        if let Err(refusal) = self.register.lock(rt).admit_anew() {
-            return Err((refusal, life));
-        }
+        let claim = match self.register.lock(rt).admit_anew() {
+            Ok(claim) => claim,
+            Err(refusal) => return Err((refusal, life)),
+        };
         match started(member, seat, life) {
-            Ok((life, copies)) => match self.register.lock(rt).enter(seat, copies) {
+            Ok((life, copies)) => match self.register.lock(rt).enter(member, seat, claim, copies) {
                 Some(slip) => Ok((slip, life)),
                 None => Err((Refusal::Full, life)),
             },
             Err(failed) => {
-                self.register.lock(rt).give_back();
+                self.register.lock(rt).give_back(claim);
                 Err(failed)
             }
         }

@@ -5,17 +5,15 @@ ghost use Rattle.node_core.specs.Nodes.{IsLifeOf};
 ghost use Rattle.node_core.specs.Permits.{IsAnswered, is_life_of};
 ghost use Rattle.journal_parts.specs.Entries.{IsSound, number_by};
 ghost use Rattle.journal_parts.specs.Faults.{fault_at};
-ghost use Rattle.journal_parts.specs.Members.{IsAct, packet_halted};
+ghost use Rattle.journal_parts.specs.Members.{IsAct, IsNewest, packet_halted};
 ghost use Rattle.journal_parts.specs.Refusals.{IsRefusedAs};
 ghost use Rattle.journal_parts.specs.declared.refusal.Refusal.TheVariants.{Broken, Damaged, Device, Full, Memory, NotGranted, Spent, StrangeLife};
 ghost use Rattle.node_threads.specs.Refusing.{HandsBack, IsNoGrant};
-ghost use Rattle.journal_parts.specs.Journals.{IsInRange};
-ghost use Rattle.journal_parts.specs.Runs.{node_at};
 ghost use Rattle.journal_parts.specs.Step.TheVariants as steps;
 
 use delivery::Outcome;
 use journal_parts::{
-    Anew, Begins, EntryCopies, Member, Ready, Refusal, Register, Seat, Slip, Step,
+    Anew, Begins, Claim, EntryCopies, Member, Ready, Refusal, Register, Seat, Slip, Step,
 };
 use mc_types::{MsgId, NodeNo, Slot};
 use node_core::{Life, Permit};
@@ -28,7 +26,7 @@ pub(crate) fn admitted<S: StableStore, L: Begins, R: Wait>(
     member: &Member<S, L>,
     register: &Mutex<Register<L>>,
     step: &Step,
-) -> Result<(), Refusal>
+) -> Result<Claim<L>, Refusal>
     requires act { IsAct step.now }
     requires unasked { number_by step.now ≡ None }
     ensures works { OnOk result (member.now.post.node.broken ≡ false) }
@@ -36,8 +34,8 @@ pub(crate) fn admitted<S: StableStore, L: Begins, R: Wait>(
     ensures broken { IsErrOf result Broken → (member.now.post.astray || member.now.post.node.broken) ≡ true }
     ensures faults { IfErr result (λ refusal. (refusal ≡ Full) ⊎ (refusal ≡ Broken)) }
 {
-    register.lock(rt).admit(step, member.is_broken())?;
-    Ok(())
+    let (claim, _packet) = register.lock(rt).admit(step, member.is_broken())?;
+    Ok(claim)
 }
 
 /// Grants an attempt at a node that is not Broken, in a life of its incarnation: the permit, and the entry for those that share it. There is room for its slip
@@ -53,6 +51,7 @@ pub(crate) fn granted<'l, S: StableStore, L: Begins>(
     requires life { is_life_of member.old.post.node life.now ≡ true }
     ensures step { IfOk result (λ granted. granted.1.done.step ≡ steps.Grant member.old.post.node.kept.setup.node id) }
     ensures finished { IfOk result (λ granted. granted.1.unfinished ≡ None) }
+    ensures own { IfOk result (λ granted. member.new.own ≡ member.old.own ++ granted.1 ∷ []) }
     ensures life { IfOk result (λ granted. granted.0.life ≡ life.now) }
     ensures room { OnOk result (1 ≤ seat.new.room) }
     ensures slips { seat.new.slips ≡ seat.old.slips }
@@ -81,8 +80,8 @@ pub(crate) struct Answer<'l> {
     pub(crate) outcome: Outcome,
 }
 
-/// Closes the attempt of a permit under the lock of its node, and enters the step in the journal. An `Err` adds no slip; a claim on the journal is given back
-/// then. Memory, and Full before the step, hand the permit back.
+/// Closes the attempt of a permit under the lock of its node, and enters the step in the journal. An `Err` adds no slip, and leaves no claim on the journal.
+/// Memory, and Full before the step, hand the permit back.
 pub(crate) fn conclude<'l, S: StableStore, L: Begins, R: Wait>(
     rt: &R,
     member: &mut Member<S, L>,
@@ -121,11 +120,10 @@ fn conclude_own<'l, S: StableStore, L: Begins, R: Wait>(
     ensures permit { IfErr result (λ failed. HandsBack answer.entry.permit failed.0 failed.1) }
     ensures faults { IfErr result (λ failed. (failed.0 ≡ Full) ⊎ (failed.0 ≡ Broken) ⊎ (failed.0 ≡ NotGranted) ⊎ (failed.0 ≡ Memory)) }
 {
-    member.within();
     match answer_admitted(rt, member, register, &answer) {
-        Ok(()) => match concluded(member, seat, answer) {
-            Ok(copies) => entered(rt, register, seat, copies),
-            Err(failed) => Err(given_back(rt, register, failed)),
+        Ok(claim) => match concluded(member, seat, answer) {
+            Ok(copies) => entered(&mut register.lock(rt), member, seat, claim, copies),
+            Err(failed) => Err(given_back(rt, register, claim, failed)),
         },
         Err(refusal) => Err(handed_back(refusal, answer)),
     }
@@ -137,7 +135,7 @@ fn answer_admitted<S: StableStore, L: Begins, R: Wait>(
     member: &Member<S, L>,
     register: &Mutex<Register<L>>,
     answer: &Answer<'_>,
-) -> Result<(), Refusal>
+) -> Result<Claim<L>, Refusal>
     ensures works { OnOk result (member.now.post.node.broken ≡ false) }
     ensures astray { OnOk result (member.now.post.astray ≡ false) }
     ensures faults { IfErr result (λ refusal. (refusal ≡ Full) ⊎ (refusal ≡ Broken)) }
@@ -154,23 +152,25 @@ fn answer_admitted<S: StableStore, L: Begins, R: Wait>(
 fn given_back<'l, L: Begins, R: Wait>(
     rt: &R,
     register: &Mutex<Register<L>>,
+    claim: Claim<L>,
     failed: (Refusal, Option<Permit<'l>>),
 ) -> (Refusal, Option<Permit<'l>>)
     ensures refusal { result.0 ≡ failed.entry.0 }
     ensures permit { result.1 ≡ failed.entry.1 }
 {
-    register.lock(rt).give_back();
+    register.lock(rt).give_back(claim);
     failed
 }
 
-/// Enters a conclusion in the journal. An `Err` is Full, and hands no permit back.
-fn entered<'l, L: Begins, R: Wait>(
-    rt: &R,
-    register: &Mutex<Register<L>>,
+/// Enters a conclusion in the journal, whose lock is held. An `Err` is Full, and hands no permit back.
+fn entered<'l, S: StableStore, L: Begins>(
+    register: &mut Register<L>,
+    member: &Member<S, L>,
     seat: &mut Seat<L>,
+    claim: Claim<L>,
     copies: EntryCopies,
 ) -> Result<Slip, (Refusal, Option<Permit<'l>>)>
-    requires node { IsInRange L.cluster (node_at copies.done.step) }
+    requires newest { IsNewest copies member.now.own }
     requires finished { copies.unfinished ≡ None }
     requires room { 1 ≤ seat.old.room }
     ensures entry { IfOk result (λ slip. slip.entry ≡ copies) }
@@ -179,7 +179,7 @@ fn entered<'l, L: Begins, R: Wait>(
     ensures full { IfErr result (λ failed. failed.0 ≡ Full) }
     ensures spent { IfErr result (λ failed. failed.1 ≡ None) }
 {
-    match register.lock(rt).enter(seat, copies) {
+    match register.enter(member, seat, claim, copies) {
         Some(slip) => Ok(slip),
         None => Err((Refusal::Full, None)),
     }
@@ -220,6 +220,7 @@ fn concluded<'l, S: StableStore, L: Begins>(
     ensures step { IfOk result (λ copies. copies.done.step
         ≡ steps.Answered member.old.post.node.kept.setup.node answer.entry.permit.slot answer.entry.outcome) }
     ensures finished { IfOk result (λ copies. copies.unfinished ≡ None) }
+    ensures own { IfOk result (λ copies. member.new.own ≡ member.old.own ++ copies ∷ []) }
     ensures room { OnOk result (1 ≤ seat.new.room) }
     ensures slips { seat.new.slips ≡ seat.old.slips }
     ensures permit { IfErr result (λ failed. HandsBack answer.entry.permit failed.0 failed.1) }
@@ -274,6 +275,7 @@ pub(crate) fn started<S: StableStore, L: Begins>(
     requires life { IsLifeOf member.old.post.node life }
     ensures step { IfOk result (λ started. started.1.done.step ≡ steps.Restart member.old.post.node.kept.setup.node) }
     ensures sound { IfOk result (λ started. IsSound started.1) }
+    ensures own { IfOk result (λ started. member.new.own ≡ member.old.own ++ started.1 ∷ []) }
     ensures room { OnOk result (1 ≤ seat.new.room) }
     ensures slips { seat.new.slips ≡ seat.old.slips }
     ensures node { IfOk result (λ started. started.0.node ≡ life.node) }
@@ -299,6 +301,7 @@ fn prepared<S: StableStore, L: Begins>(
     ensures step { IfOk result (λ anew. anew.step ≡ steps.Restart member.old.post.node.kept.setup.node) }
     ensures packet { IfOk result (λ anew. anew.packet ≡ packet_halted member.old.post.halted) }
     ensures post { member.new.post ≡ member.old.post }
+    ensures own { member.new.own ≡ member.old.own }
     ensures entries { OnOk result (1 ≤ member.new.room) }
     ensures room { OnOk result (1 ≤ seat.new.room) }
     ensures slips { seat.new.slips ≡ seat.old.slips }

@@ -13,7 +13,7 @@ use stable_store::StableStore;
 use std::sync::{Mutex, Wait};
 
 /// Takes a step of a node whose lock is held, and enters it in the journal. The journal's lock is held twice, but not while the step is prepared and saved. An
-/// `Err` adds no slip; a claim on the journal is given back then. Of several refusals the one with the lowest number is told first, but Memory last: Full,
+/// `Err` adds no slip, and leaves no claim on the journal. Of several refusals the one with the lowest number is told first, but Memory last: Full,
 /// Broken, NoSuchPacket, Device. NoSuchPacket and Device come at the step of a packet alone.
 pub(crate) fn take<S: StableStore, L: Begins, R: Wait>(
     rt: &R,
@@ -35,12 +35,14 @@ pub(crate) fn take<S: StableStore, L: Begins, R: Wait>(
     ensures faults { IsCopied step → IfErr result (λ refusal.
         (refusal ≡ Full) ⊎ (refusal ≡ Broken) ⊎ (refusal ≡ NoSuchPacket) ⊎ (refusal ≡ Device) ⊎ (refusal ≡ Memory)) }
 {
-    member.within();
-    let packet = register.lock(rt).admit(&step, member.is_broken())?;
+    let (claim, packet) = register.lock(rt).admit(&step, member.is_broken())?;
     match committed(member, seat, step, packet) {
-        Ok(copies) => register.lock(rt).enter(seat, copies).ok_or(Refusal::Full),
+        Ok(copies) => register
+            .lock(rt)
+            .enter(member, seat, claim, copies)
+            .ok_or(Refusal::Full),
         Err(refusal) => {
-            register.lock(rt).give_back();
+            register.lock(rt).give_back(claim);
             Err(refusal)
         }
     }

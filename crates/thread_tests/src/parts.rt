@@ -32,14 +32,15 @@ fn taken<L: Begins>(
     requires node { node_at step ≡ member.old.post.node.kept.setup.node }
     requires act { IsAct step }
 {
-    member.within();
-    let packet = register
+    let (claim, packet) = register
         .admit(&step, member.is_broken())
         .expect(rt, "room for it");
     let ready = member.prepare(step, packet).expect(rt, "a step");
     seat.make_room().expect(rt, "memory");
     let copies = member.commit(ready).expect(rt, "a step");
-    register.enter(seat, copies).expect(rt, "a slip")
+    register
+        .enter(member, seat, claim, copies)
+        .expect(rt, "a slip")
 }
 
 /// The number of an entry, how many packets had numbers before it, and how many it sent.
@@ -112,18 +113,17 @@ fn granted<'l, L: Begins>(
     requires { is_life_of member.old.post.node life.now ≡ true }
     ensures { result.life ≡ life.now }
 {
-    member.within();
     let step = Step::Grant {
         node: member.node(),
         id: first_id().expect(rt, "an id"),
     };
-    let packet = register
+    let (claim, packet) = register
         .admit(&step, member.is_broken())
         .expect(rt, "room for it");
     let ready = member.prepare(step, packet).expect(rt, "it is granted");
     seat.make_room().expect(rt, "memory");
     let (permit, copies) = member.commit_grant(life, ready);
-    if register.enter(seat, copies).is_none() {
+    if register.enter(member, seat, claim, copies).is_none() {
         permit.abandon();
         panic!(rt; "a slip");
     }
@@ -138,23 +138,25 @@ fn concluded<'l, L: Begins>(
     seat: &mut Seat<L>,
     permit: Permit<'l>,
 ) -> [u64; 3] {
-    member.within();
+    if !member.is_life(permit.life()) {
+        permit.abandon();
+        panic!(rt; "a life of the node");
+    }
     let step = Step::Answered {
         node: member.node(),
         slot: permit.slot(),
         outcome: Outcome::Delivered,
     };
-    let packet = register
+    let (claim, packet) = register
         .admit(&step, member.is_broken())
         .expect(rt, "room for it");
-    if !member.is_life(permit.life()) {
-        permit.abandon();
-        panic!(rt; "a life of the node");
-    }
     let ready = member.prepare(step, packet).expect(rt, "it is open");
     seat.make_room().expect(rt, "memory");
     let copies = member.commit_answered(permit, ready);
-    numbers(&register.enter(seat, copies).expect(rt, "a slip"))
+    let slip = register
+        .enter(member, seat, claim, copies)
+        .expect(rt, "a slip");
+    numbers(&slip)
 }
 
 /// Starts the node anew in its life: how many packets had numbers before its entry, and what the new life says.
@@ -167,17 +169,19 @@ fn restarted<L: Begins>(
 ) -> u16
     requires { IsLifeOf member.old.post.node life }
 {
-    member.within();
-    register.admit_anew().expect(rt, "room for it");
-    let anew = member.prepare_anew().expect(rt, "memory");
-    seat.make_room().expect(rt, "memory");
     if member.is_astray() {
         panic!(rt; "it is not astray");
     }
+    let claim = register.admit_anew().expect(rt, "room for it");
+    let anew = member.prepare_anew().expect(rt, "memory");
+    seat.make_room().expect(rt, "memory");
     let Ok((life, copies)) = member.start_anew(life, anew) else {
+        register.give_back(claim);
         panic!(rt; "it starts anew");
     };
-    let slip = register.enter(seat, copies).expect(rt, "a slip");
+    let slip = register
+        .enter(member, seat, claim, copies)
+        .expect(rt, "a slip");
     assert_same(rt, &slip.unfinished(), &None);
     life.incarnation().number()
 }
@@ -198,16 +202,21 @@ fn assert_refused<L: Begins>(
     );
     assert_same(rt, &refusal(register, &sent, true), &Some(Refusal::Broken));
     assert_same(rt, &refusal(register, &sent, false), &None);
-    register.give_back();
     let found = (register.packet(4).is_some(), register.packet(5).is_some());
     assert_same(rt, &found, &(true, false));
 }
 
-/// Why a step is not admitted.
+/// Why a step is not admitted. If it is, its claim is given back.
 fn refusal<L: Begins>(register: &mut Register<L>, step: &Step, broken: bool) -> Option<Refusal>
     requires { IsAct step.now }
 {
-    register.admit(step, broken).err()
+    match register.admit(step, broken) {
+        Ok((claim, _packet)) => {
+            register.give_back(claim);
+            None
+        }
+        Err(refusal) => Some(refusal),
+    }
 }
 
 /// The first four packets of a message: the numbers of their entries.

@@ -1,4 +1,4 @@
-use Rattle.std.proofs.Common.{◌≡◌, List, length, refl, sym, ap, subst, inl, inr, arith}
+use Rattle.std.proofs.Common.{List, length, refl, sym, ap, subst, inl, inr, arith}
 use Rattle.mc_model.specs.synod.Lists.{In}
 use Rattle.node_core.specs.Nodes.{Standing}
 use Rattle.node_threads.proofs.cluster.locks_of.Goals as goal

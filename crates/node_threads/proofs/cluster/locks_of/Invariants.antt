@@ -1,4 +1,4 @@
-use Rattle.std.proofs.Common.{◌≡◌, ◌+◌, ℕ, length}
+use Rattle.std.proofs.Common.{◌≡◌, ◌+◌, length}
 use Rattle.std.specs.Vec.{vec_len}
 use Rattle.node_threads.specs.Actions.{AllBegin}
 use Rattle.node_threads.proofs.cluster.locks_of.Given as goal

@@ -10,22 +10,36 @@ use Rattle.journal_parts.specs.declared.noted.Noted.{Noted}
 use Rattle.journal_parts.specs.Entries.{IsSound, entry_of}
 use Rattle.journal_parts.specs.Registers.{CameFrom, ComesAsNumbered, IsRegister, MayEnter, Registered, count_in, entries_of}
 use Rattle.journal_parts.specs.Slips.{Slipped}
+use Rattle.journal_parts.proofs.Members.{newest_within}
 use Rattle.journal_parts.proofs.Numbers.{register_more}
 use Rattle.journal_parts.proofs.Unsent.{sent_count}
 use Rattle.journal_parts.proofs.register.Register.enter.Goals as goal
 
+-- one claim less
 pub invariant_of-self : goal.invariant_of-self
-invariant_of-self g c =
+invariant_of-self g c = (
+  c.self.invariant.0,
+  (let room = c.self.invariant.1 in omega (arith, room, c.if-self-eq0.false)),
+  c.self.invariant.2,
+  c.self.invariant.3,
+  c.self.invariant.4,
+  c.self.invariant.5,
+)
+
+pub invariant_of-self-2 : goal.invariant_of-self-2
+invariant_of-self-2 g c =
     let one : Noted = record {
       entry = c.copies.inside.journal;
       before = c.self.inside.sent;
       within = c.push_reserved-arg-2-1.given.0;
     } in
     let within : IsInRange g.L.Begins.cluster (node_at (entry_of one.entry).done.step) =
-    subst (λ (e : Entry). IsInRange g.L.Begins.cluster (node_at e.done.step)) (sym c.copies.view_is) c.requires.node in
+    subst (λ (e : Entry). IsInRange g.L.Begins.cluster (node_at e.done.step)) (sym c.copies.view_is)
+    (newest_within g.S.StableStore.stored g.L.Begins.cluster g.L.Begins.kept c.args.member.now.post c.args.member.now.own c.args.copies
+    c.is_own_run.ensures.run c.requires.newest) in
     let sound : IsSound (entry_of one.entry) = subst (λ (e : Entry). IsSound e) (sym c.copies.view_is) c.requires.sound in
     let came : CameFrom g.L.Begins.numbers (entries_of c.self.inside.noted.items) (entry_of one.entry) =
-    subst (λ (v : Registered). CameFrom g.L.Begins.numbers v.entries (entry_of one.entry)) (sym c.self.view_is) (c.if-not-has_sent.ensures.sent refl) in
+    subst (λ (v : Registered). CameFrom g.L.Begins.numbers v.entries (entry_of one.entry)) (sym c.self.view_is) (c.has_sent-comes.ensures.sent c.if-not-comes.false) in
     let more = register_more g.L.Begins.cluster g.L.Begins.numbers c.self.inside.noted.items c.self.inside.carried.items c.self.inside.sent one
     c.self.invariant.0 within sound came refl in
     let count : c.in_ok-sent.sent ≡ c.self.inside.sent + count_in one =
@@ -57,12 +71,13 @@ returns-then-self-eq0-clause-may g c = (
       absurd (omega (arith, claimed, seen, none))),
 )
 
-pub returns-then-not-has_sent-clause-may : goal.returns-then-not-has_sent-clause-may
-returns-then-not-has_sent-clause-may g c = (
+pub returns-then-not-comes-clause-may : goal.returns-then-not-comes-clause-may
+returns-then-not-comes-clause-may g c = (
   (λ is. absurd cc),
   (λ may.
-      let no = c.if-not-has_sent.ensures.only
+      let no = c.has_sent-comes.ensures.only
       (subst (λ (e : Entry). ComesAsNumbered g.L.Begins.numbers c.args.self.now e) (sym c.copies.view_is) may.comes) in
+      let not = c.if-not-comes.true in
       absurd cc),
 )
 
@@ -95,7 +110,7 @@ returns-clause-may g c = (
       let some = c.if-self-eq0.false in
       let may : MayEnter g.L.Begins.numbers c.args.self.now (entry_of c.copies.inside.journal) = record {
         claimed = omega (arith, claims, some);
-        comes = c.if-not-has_sent.ensures.comes refl;
+        comes = c.has_sent-comes.ensures.comes c.if-not-comes.false;
         below = omega (arith, before, seen, sends, same, own, len, sum);
       } in
       subst (λ (e : Entry). MayEnter g.L.Begins.numbers c.args.self.now e) c.copies.view_is may),
