@@ -106,9 +106,11 @@ class Plain:
 
     def at_once(self):
         """A message whose account is bound waits for no tick, whichever node took it: half of eleven come within a third of a second."""
-        for node, esme in ((1, self.main), (2, self.bound("sender", 2, command=pdus.BIND_TRANSMITTER))):
+        sender = self.bound("sender", 2, command=pdus.BIND_TRANSMITTER)
+        for node, esme in ((1, self.main), (2, sender)):
             delays = sorted(self.delay_of(esme, b"at once %d from %d" % (number, node)) for number in range(11))
             self.check(f"half_come_at_once_from_node_{node}", delays[5] < 1 / 3, delays)
+        sender.close()
 
     def delay_of(self, esme, text):
         """How many seconds a message to the main ESME takes."""
