@@ -74,13 +74,15 @@ class GoingOn:
         self.check("few_are_refused", set(self.refused) <= {8} and len(self.refused) <= len(self.matches(ANEW)), self.refused)
 
     def fates(self):
-        """All that was accepted is delivered, is told so by each node, and has its receipt at the node of its id."""
+        """All that was accepted is delivered, is told so by each node, and has its receipt at the node of its id. No session is idle meanwhile."""
         left = set(self.ids)
 
         end = time.monotonic() + DELIVERY
         while left and time.monotonic() < end:
             left -= {one for one in left if self.esmes[0].state(one)[2] == pdus.DELIVERED}
             wait(self.esmes, lambda: False, 2)
+            for esme in self.esmes:
+                esme.ask(pdus.ENQUIRE_LINK)
         self.check("all_are_delivered", not left, sorted(left)[:5])
         wait(self.esmes, lambda: False, 1)
         strange = [one for one in self.ids if {esme.state(one)[2] for esme in self.esmes} != {pdus.DELIVERED}]
