@@ -34,14 +34,14 @@ impl Bell {
     pub(crate) fn call<R: Wait>(&self, rt: &R, number: u64) {
         let behind = number.saturating_add(1);
         let _ = self.last.fetch_max(behind, Ordering::SeqCst);
-        if !self.is_first(behind) {
+        if !self.call_alone(behind) {
             let _ = self.due.fetch_min(behind, Ordering::SeqCst);
         }
         self.ring(rt);
     }
 
-    /// Has something be due alone, if nothing is; whether that was so.
-    fn is_first(&self, behind: u64) -> bool {
+    /// If nothing is due, something is from now on; whether nothing was.
+    fn call_alone(&self, behind: u64) -> bool {
         self.due
             .compare_exchange(0, behind, Ordering::SeqCst, Ordering::SeqCst)
             .is_ok()
@@ -63,7 +63,7 @@ impl Bell {
         self.due.store(0, Ordering::SeqCst);
         let last = self.last.load(Ordering::SeqCst);
         if last > next {
-            let _ = self.is_first(last);
+            let _ = self.call_alone(last);
         }
     }
 
