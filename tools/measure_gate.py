@@ -7,6 +7,7 @@
                                                       the rows of these
     python3 tools/measure_gate.py .. --cores N        the same, on so many of this machine's cores
     python3 tools/measure_gate.py .. --keep           the same, and leaves the clone, with the programs that it built
+    kill -INT NUMBER                                  ends a run early: what was measured so far is told, and written
     python3 tools/measure_gate.py --functions CRATE   checks one crate from nothing, with its tests; prints its ten dearest functions, and
                                                       the sum of the sizes of its `*Lts.oantt`, which does not depend on what runs beside
 
@@ -211,15 +212,28 @@ def run_gate(clone):
         gate = subprocess.Popen(["rt", "ci", *anew()], cwd=clone, stdout=out, stderr=subprocess.STDOUT, stdin=subprocess.DEVNULL)
         sampler = Sampler(gate.pid)
         sampler.start()
-        gate.wait()
+        try:
+            gate.wait()
+        except KeyboardInterrupt:
+            # Who ends a run early still gets what was measured so far.
+            gate.terminate()
+            gate.wait()
         sampler.ended.set()
         sampler.join()
     after = resource.getrusage(resource.RUSAGE_CHILDREN)
     processor = after.ru_utime + after.ru_stime - before.ru_utime - before.ru_stime
     said = log.read_text(errors="replace").splitlines()
     print(*(line for line in said if re.search(r"NOT PROVED|NOT REFUSED|BAD EDIT|FAILED", line)), sep="\n")
+    return sampler, time.monotonic() - began, processor, last_of(clone, said)
+
+
+def last_of(clone, said):
+    """The last line of the gate; if it was ended early, which crates it did not come to."""
     last = [line for line in said if re.match(r"\d+ passed", line)]
-    return sampler, time.monotonic() - began, processor, last[-1] if last else f"no last line: see {log}"
+    if last:
+        return last[-1]
+    proved = {found[1] for line in said if (found := re.match(r"rt: (\w+) proved", line))}
+    return f"ended before {', '.join(crate for crate in libraries(clone) if crate not in proved)} were proved"
 
 
 def giga(octets):
