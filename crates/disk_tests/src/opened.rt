@@ -31,10 +31,13 @@ fn walk(rt: &impl Abort, alloc: Global, opened: Result<NodeStore, StoreFault>, p
     drop(walked(rt, alloc, store, setup, part));
 }
 
+// The file is found again, with the vote in its slot, the ballot that was promised there, and the incarnation that has begun.
 #[test]
 fn a_node_over_a_path_goes_on(rt: HostRuntime) {
     let after = "\
 the message is there in the second incarnation
+ask 1 => Told 262161
+prepare 1 262161 => Refused 262161
 query => Waits 1
 back => Shown 1 1
 submit_with_receipt => Waits 2

@@ -4,8 +4,6 @@
 #[cfg(test)]
 mod damage;
 #[cfg(test)]
-mod files;
-#[cfg(test)]
 mod large;
 #[cfg(test)]
 mod looking;

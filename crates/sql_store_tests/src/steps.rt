@@ -184,19 +184,8 @@ pub fn played<S: Alter + Drop>(
     store
 }
 
-// That the steps of a row answer over a store that was opened what they are to answer.
-pub fn assert_opened<S: Alter + Drop>(
-    rt: &impl Abort,
-    alloc: Global,
-    opened: Result<SqlStore<S>, StoreFault>,
-    name: &str,
-    steps: &[Step<'_>],
-) {
-    let store = opened.expect(rt, "a store");
-    drop(played(rt, alloc, store, name, steps));
-}
-
-// The same over a new store in memory.
+// That the steps of a row answer over a new store in memory what they are to answer.
 pub fn assert_steps(rt: &impl Abort, alloc: Global, name: &str, steps: &[Step<'_>]) {
-    assert_opened(rt, alloc, SqlStore::in_memory(alloc), name, steps);
+    let store = SqlStore::in_memory(alloc).expect(rt, "a store");
+    drop(played(rt, alloc, store, name, steps));
 }
