@@ -25,6 +25,7 @@ import pathlib
 import re
 import resource
 import shutil
+import signal
 import subprocess
 import sys
 import tempfile
@@ -212,6 +213,8 @@ def run_gate(clone):
         gate = subprocess.Popen(["rt", "ci", *anew()], cwd=clone, stdout=out, stderr=subprocess.STDOUT, stdin=subprocess.DEVNULL)
         sampler = Sampler(gate.pid)
         sampler.start()
+        # A shell has its background jobs ignore the signal.
+        signal.signal(signal.SIGINT, signal.default_int_handler)
         try:
             gate.wait()
         except KeyboardInterrupt:
@@ -228,12 +231,13 @@ def run_gate(clone):
 
 
 def last_of(clone, said):
-    """The last line of the gate; if it was ended early, which crates it did not come to."""
+    """The last line of the gate; if it was ended early, which crates are not proved yet."""
     last = [line for line in said if re.match(r"\d+ passed", line)]
     if last:
         return last[-1]
     proved = {found[1] for line in said if (found := re.match(r"rt: (\w+) proved", line))}
-    return f"ended before {', '.join(crate for crate in libraries(clone) if crate not in proved)} were proved"
+    missing = [crate for crate in libraries(clone) if crate not in proved]
+    return f"ended early, with {', '.join(missing) or 'no crate'} left to prove"
 
 
 def giga(octets):
