@@ -51,6 +51,9 @@ MOST_EDITS, MOST_AN_EDIT = 6, 25
 # Seconds of the clock of the check of a crate, seconds of its tests, and octets of memory of a prover.
 MOST_A_CHECK, MOST_TESTS, MOST_MEMORY = 300, 120, 4_000_000_000
 
+# Minutes of processor time from which on a crate has a row in a whole run: pages have a limit.
+LEAST_SHOWN = 6
+
 KINDS = ("check", "tests", "edits")
 HEAD = [
     "| Crate | Code | Definitions | Proofs | Edits | Beside | Check, s | of the clock | GB | Tests, s | GB | Edits, s | All, min |",
@@ -313,7 +316,8 @@ def whole_of(clone, sampler, day, wall, processor, last):
         f"{of_the_clock}, `{last}`. The checks take {spent['check']:.0f} minutes, the tests {spent['tests']:.0f}, "
         f"the {count} edits {spent['edits']:.0f} (the crates that have one are checked once more for it, which took {again:.0f} minutes the first time), "
         f"and other processes {processor / 60 - sum(spent.values()):.0f}. {beside} more edits stand beside the gate. The host took {day.taken:.0f} % of the "
-        f"machine, and what ran beside the gate {max(0.0, day.busy - processor / 60):.0f} minutes of its processors; putting {SORTED // 1_000_000} million numbers in order took {day.before:.1f} seconds before the run and {day.behind:.1f} behind it."
+        f"machine, and what ran beside the gate {max(0.0, day.busy - processor / 60):.0f} minutes of its processors; putting {SORTED // 1_000_000} million numbers in order took {day.before:.1f} seconds before the run and {day.behind:.1f} behind it. "
+        f"Crates that took less than {LEAST_SHOWN} minutes have no row."
     )
     return textwrap.wrap(told, WIDTH, break_on_hyphens=False)
 
@@ -360,12 +364,13 @@ def measure(wanted, write, keep):
     if wanted:
         narrow(clone, wanted)
     (sampler, wall, processor, last), day = day_of(lambda: run_gate(clone))
-    shown = [crate for crate in libraries(clone) if not wanted or crate in wanted]
+    shown = [crate for crate in libraries(clone) if (crate in wanted if wanted else minutes_of(sampler, crate) >= LEAST_SHOWN)]
     rows = [row_of(clone, crate, sampler) for crate in shown]
     whole = [f"`{last}`"] if wanted else whole_of(clone, sampler, day, wall, processor, last)
     lines = measured(clone, sampler, rows, whole)
     print("\n".join(lines))
-    print(f"{sum(minutes_of(sampler, crate) for crate in shown):.1f} minutes of processor time for these crates")
+    if wanted:
+        print(f"{sum(minutes_of(sampler, crate) for crate in shown):.1f} minutes of processor time for these crates")
     if write:
         page = TOP / "docs" / "GATE.md"
         head, rest = page.read_text().split(BEGIN)

@@ -80,11 +80,13 @@ FAULTS = {
 # What the limits of a configuration are by what it says of them.
 LIMITS = {
     "": ["a connection on which no octet comes is not ended for that", "a connection on which nobody binds is not ended for that",
-         "a connection on which its ESME takes nothing is not ended for that", "a node has 99 connections at most",
+         "a connection on which its ESME takes nothing is not ended for that",
+         "an attempt that waits for a place fails if no session of its account may receive", "a node has 99 connections at most",
          "a part of the journal is closed after 150000 steps"],
-    "[own]\nidle_seconds = 120\nbind_seconds = 10\nwrite_seconds = 60\nsessions = 5000\npart_entries = 7\n":
+    "[own]\nidle_seconds = 120\nbind_seconds = 10\nwrite_seconds = 60\nlinger_seconds = 30\nsessions = 5000\npart_entries = 7\n":
         ["a connection on which no octet comes for 120 seconds is ended", "a connection on which nobody binds for 10 seconds is ended",
-         "a connection on which its ESME takes nothing for 60 seconds is ended", "a node has 99 connections at most",
+         "a connection on which its ESME takes nothing for 60 seconds is ended",
+         "an attempt that waits for a place fails if no session of its account may receive for 30 seconds", "a node has 99 connections at most",
          "a part of the journal is closed after 7 steps"],
     '[own]\nsessions = 5\nfull = "end"\n': ["a node has 5 connections at most", "it ends once its journal is full"],
 }

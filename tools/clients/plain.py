@@ -17,11 +17,13 @@ from checks import Checks
 from plain_esme import NOT_READY, Ended, Esme, wait
 
 # As centre.toml has them.
-BIND_SECONDS, IDLE_SECONDS, WRITE_SECONDS, SESSIONS = 5, 45, 5, 20
-PASSWORDS = {name: f"pw{name}" for name in ("plain", "many", "silent", "lost", "older", "sender", "getter")}
-PLAIN, MANY, SILENT, LOST, OLDER, GETTER = "30", "31", "32", "33", "34", "35"
+BIND_SECONDS, IDLE_SECONDS, WRITE_SECONDS, LINGER_SECONDS, SESSIONS = 5, 45, 5, 5, 20
+PASSWORDS = {name: f"pw{name}" for name in ("plain", "many", "silent", "lost", "older", "sender", "getter", "flap")}
+PLAIN, MANY, SILENT, LOST, OLDER, GETTER, FLAP = "30", "31", "32", "33", "34", "35", "36"
 WINDOW = 10
 MESSAGES = 200
+# Messages behind one that answers nothing.
+QUEUED = 300
 SECONDS = 240
 # A peer that never reads can send no more than this before it has to wait, whatever the buffers of the system are.
 MOST_FLOODED = 64_000_000
@@ -101,6 +103,14 @@ class Plain:
         self.check("silent_esme_gets_a_window", len(self.silent.messages()) == WINDOW, lambda: f"{len(self.silent.messages())} deliver_sm")
         self.main.submitted(PLAIN, b"beside a silent one")
         self.check("silent_esme_holds_up_nobody", self.main.wait(lambda: self.main.messages(b"beside a silent one"), 5), "no deliver_sm")
+
+    def queue(self):
+        """Behind it no attempt begins of more messages than fill its window twice: all others can be cancelled."""
+        queued = [self.main.submitted(SILENT, b"queued %d" % number) for number in range(QUEUED)]
+        self.main.wait(lambda: False, 3)
+        found = [self.main.cancel(message_id) for message_id in queued[2 * WINDOW:]]
+        refused = [status for status in found if status != pdus.OK]
+        self.check("queued_messages_are_cancelled", not refused, lambda: f"{len(refused)} of {len(found)} refused: {sorted(set(refused))}")
 
     # Short ones.
 
@@ -331,6 +341,31 @@ class Plain:
         slow.unbind()
         quick.unbind()
 
+    def flaps(self):
+        """An attempt that waits for a place outlasts a session that goes and comes again; it fails once none has come for long enough."""
+        first = self.bound("flap")
+        first.status = None
+        ids = {text: self.main.submitted(FLAP, text, registered=0) for text in (b"%d of a flap" % number for number in range(WINDOW + 5))}
+        self.both(first, lambda: len(first.messages()) >= WINDOW, 5)
+        self.both(first, lambda: False, 2)
+        first.close()
+        self.main.wait(lambda: False, LINGER_SECONDS - 2)
+        waiting = set(ids) - {one["short_message"] for one in first.messages()}
+        found = [self.main.state(ids[text])[2:] for text in waiting]
+        self.check("attempts_outlast_a_flap", found == [(pdus.ENROUTE, 0)] * 5, found)
+        second = self.bound("flap")
+        self.both(second, lambda: len(second.messages()) >= 5, 3)
+        came = {one["short_message"] for one in second.messages()}
+        self.check("they_go_out_behind_it", came == waiting, lambda: (sorted(came), sorted(waiting)))
+        second.status = None
+        later = [self.main.submitted(FLAP, b"%d behind a flap" % number, registered=0) for number in range(WINDOW + 5)]
+        self.both(second, lambda: len(second.messages()) >= WINDOW + 5, 5)
+        self.both(second, lambda: False, 2)
+        second.close()
+        self.main.wait(lambda: False, LINGER_SECONDS + 3)
+        found = [self.main.state(message_id)[2:] for message_id in later]
+        self.check("attempts_fail_if_nobody_comes", found == [(pdus.ENROUTE, NO_ANSWER)] * (WINDOW + 5), found)
+
     def never_reads(self):
         """A peer that asks without an end and reads nothing has to wait in the end; the node serves others meanwhile, and ends it."""
         flooder = self.connected(3, receive_buffer=4096)
@@ -407,9 +442,10 @@ class Plain:
 
     def full_account_goes_on(self):
         """After 30 seconds without an answer the open attempts have failed, and those that waited for room go out."""
-        self.both(self.silent, lambda: len(self.silent.messages()) >= WINDOW + 2, 40)
-        came = {one["short_message"] for one in self.silent.messages()}
-        self.check("room_after_30_seconds", len(came) == WINDOW + 2, sorted(came))
+        def came():
+            return {one["short_message"] for one in self.silent.messages() if one["short_message"].startswith(b"silent ")}
+        self.both(self.silent, lambda: len(came()) >= WINDOW + 2, 40)
+        self.check("room_after_30_seconds", len(came()) == WINDOW + 2, lambda: sorted(came()))
         first = next(message_id for number, message_id in enumerate(self.silent_ids) if self.silent.messages()[0]["short_message"] == b"silent %d" % number)
         found = self.main.state(first)
         self.check("silence_is_a_failure", found[2:] == (pdus.ENROUTE, NO_ANSWER), found)
@@ -430,9 +466,9 @@ class Plain:
         self.check("main_session_lives", not self.main.is_ended and self.main.unbind() == pdus.OK, "it is gone")
 
 
-PARTS = (Plain.silence, Plain.vanish, Plain.full_account, Plain.at_once, Plain.before_bind, Plain.roles, Plain.window, Plain.pieces, Plain.wrong_lengths,
-         Plain.longest, Plain.older_version, Plain.answers_of_all_kinds, Plain.two_hundred, Plain.two_sessions, Plain.never_reads, Plain.places,
-         Plain.silence_ends, Plain.full_account_goes_on, Plain.vanished_one_returns, Plain.ends)
+PARTS = (Plain.silence, Plain.vanish, Plain.full_account, Plain.queue, Plain.at_once, Plain.before_bind, Plain.roles, Plain.window, Plain.pieces, Plain.wrong_lengths,
+         Plain.longest, Plain.older_version, Plain.answers_of_all_kinds, Plain.two_hundred, Plain.two_sessions, Plain.flaps, Plain.never_reads,
+         Plain.places,          Plain.silence_ends, Plain.full_account_goes_on, Plain.vanished_one_returns, Plain.ends)
 
 
 def out_of_time(*_):

@@ -9,7 +9,7 @@ ComesAbout (Arrival request) id = id_in request ≡ id
 ComesAbout (Delivery packet) id = ⊥
 ComesAbout (Crash packet after) id = ⊥
 ComesAbout (Refusal status) id = ⊥
-ComesAbout (Tick moment up) id = ⊥
+ComesAbout (Tick moment reach) id = ⊥
 ComesAbout (Grant slot) id = ⊥
 ComesAbout (Response slot outcome) id = ⊥
 ComesAbout (Restart lost) id = ⊥
@@ -19,7 +19,7 @@ abbrev pub IsPlain : Input → Type 0
 IsPlain (Delivery packet) = Unit {0}
 IsPlain (Arrival request) = Unit {0}
 IsPlain (Refusal status) = Unit {0}
-IsPlain (Tick moment up) = Unit {0}
+IsPlain (Tick moment reach) = Unit {0}
 IsPlain (Grant slot) = Unit {0}
 IsPlain (Response slot outcome) = Unit {0}
 IsPlain (Crash packet after) = ⊥

@@ -3,6 +3,7 @@ use Rattle.std.proofs.Common.{◌≡◌, ℕ, suc, pred, Bool, true, false, List
 use Rattle.std.specs.Prelude.{if◌then◌else◌}
 use Rattle.mc_model.specs.synod.Packet.{slot_at}
 use Rattle.mc_model.specs.node.FirstRule.{Announce, Close, Delete, Expire, Follow, GiveUp, Lose, Rule, Take, Try, Undeliver}
+use Rattle.mc_model.specs.node.Reach.{Reach}
 use Rattle.mc_model.specs.node.Setup.{Setup}
 use Rattle.node_model.specs.Message.{Message}
 use Rattle.node_model.specs.Kept.{Kept, message_at, with_message}
@@ -62,9 +63,9 @@ rule_lasts setup k id (Some fit) =
     lasts_then k given (started setup given id (Some fit.start)).kept (giving_up_lasts fit.rule k id (pred fit.start.place))
     (start_lasts setup given id (Some fit.start))
 
-pub rules_last : (setup : Setup) (up : List ℕ → Bool) (ids : List ℕ) (k : Kept) → Lasts k (ruled_each setup up ids k).kept
-rules_last setup up [] k = lasts_still k
-rules_last setup up (id ∷ others) k =
-    let first = ruled setup k id (first_rule setup k up id) in
-    lasts_then k first.kept (ruled_each setup up others first.kept).kept (rule_lasts setup k id (first_rule setup k up id))
-    (rules_last setup up others first.kept)
+pub rules_last : (setup : Setup) (reach : Reach) (ids : List ℕ) (k : Kept) → Lasts k (ruled_each setup reach ids k).kept
+rules_last setup reach [] k = lasts_still k
+rules_last setup reach (id ∷ others) k =
+    let first = ruled setup k id (first_rule setup k reach id) in
+    lasts_then k first.kept (ruled_each setup reach others first.kept).kept (rule_lasts setup k id (first_rule setup k reach id))
+    (rules_last setup reach others first.kept)

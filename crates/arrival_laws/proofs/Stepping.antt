@@ -10,6 +10,7 @@ use Rattle.mc_model.specs.node.Input.{Arrival, Crash, Delivery, Grant, Input, Re
 use Rattle.mc_model.specs.node.Outcome.{Outcome}
 use Rattle.mc_model.specs.node.Outputs.{Reply}
 use Rattle.mc_model.specs.node.Replies.{Answer}
+use Rattle.mc_model.specs.node.Reach.{Reach}
 use Rattle.mc_model.specs.node.Setup.{Setup}
 use Rattle.mc_parts.proofs.Membership.{in_either, in_filter}
 use Rattle.mc_parts.proofs.Requests.{serials}
@@ -240,14 +241,14 @@ arrival_goes setup k request =
       replies = λ reply among. absurd among;
     }
 
-tick_goes : (setup : Setup) (k : Kept) (moment : ℕ) (up : List ℕ → Bool) → GoesOn k (Tick moment up) (stepped_up setup k (Tick moment up))
-tick_goes setup k moment up =
+tick_goes : (setup : Setup) (k : Kept) (moment : ℕ) (reach : Reach) → GoesOn k (Tick moment reach) (stepped_up setup k (Tick moment reach))
+tick_goes setup k moment reach =
     let clock = max k.clock moment in
     let risen = ticked k clock in
-    let lasts = rules_last setup up (ids_of risen) risen in
+    let lasts = rules_last setup reach (ids_of risen) risen in
     record {
       up = lasts.up;
-      serial = no_less risen (ruled_each setup up (ids_of risen) risen).kept lasts.serial;
+      serial = no_less risen (ruled_each setup reach (ids_of risen) risen).kept lasts.serial;
       held = λ h among. inl (asked_by k.held h (in_filter (λ (other : Held). not (is_late clock other)) k.held h (subst (In h) lasts.held among)));
       replies = λ reply among.
           let it = in_mapped late_reply (filter (is_late clock) k.held) reply among in
@@ -287,7 +288,7 @@ goes_on setup k input up plain =
     by_input (Delivery packet) plain = packet_goes setup k packet
     by_input (Arrival request) plain = arrival_goes setup k request
     by_input (Refusal status) plain = quietly k (Refusal status) _ (lasts_still k) refl
-    by_input (Tick moment up) plain = tick_goes setup k moment up
+    by_input (Tick moment reach) plain = tick_goes setup k moment reach
     by_input (Grant slot) plain = grant_goes k slot
     by_input (Response slot outcome) plain = response_goes setup k slot outcome
     by_input (Crash packet after) plain = absurd plain

@@ -9,6 +9,7 @@ use Rattle.mc_model.specs.synod.Packet.{Ask, Name, Packet, Prepare, Promise, Pro
 use Rattle.mc_model.specs.node.Actor.{Request, id_in}
 use Rattle.mc_model.specs.node.Input.{Arrival, Crash, Delivery, Grant, Input, Refusal, Response, Restart, Tick}
 use Rattle.mc_model.specs.node.Replies.{Answer}
+use Rattle.mc_model.specs.node.Reach.{Reach}
 use Rattle.mc_model.specs.node.Setup.{Setup}
 use Rattle.mc_parts.proofs.Membership.{in_either}
 use Rattle.node_model.specs.Acceptor.{Judgement, prepare_judged, propose_judged}
@@ -61,11 +62,11 @@ module _ (setup : Setup) where
       by_test true = one_sent setup.node _ refl
       by_test false = none_sent setup.node
 
-  rules_sent : (up : List ℕ → Bool) (ids : List ℕ) (k : Kept) → AreSentBy setup.node (ruled_each setup up ids k).packets
-  rules_sent up [] k = none_sent setup.node
-  rules_sent up (id ∷ others) k =
-      let first : Prepared = ruled setup k id (first_rule setup k up id) in
-      both_sent setup.node first.packets (ruled_each setup up others first.kept).packets (by_rule (first_rule setup k up id)) (rules_sent up others first.kept)
+  rules_sent : (reach : Reach) (ids : List ℕ) (k : Kept) → AreSentBy setup.node (ruled_each setup reach ids k).packets
+  rules_sent reach [] k = none_sent setup.node
+  rules_sent reach (id ∷ others) k =
+      let first : Prepared = ruled setup k id (first_rule setup k reach id) in
+      both_sent setup.node first.packets (ruled_each setup reach others first.kept).packets (by_rule (first_rule setup k reach id)) (rules_sent reach others first.kept)
     where
       by_rule : (rule : Option Fitting) → AreSentBy setup.node (ruled setup k id rule).packets
       by_rule None = start_sent k id None
@@ -204,18 +205,18 @@ module _ (setup : Setup) where
   questions_sent : (k : Kept) (held : List Held) → AreSentBy setup.node (map (question setup k) held)
   questions_sent k held packet among = ap sender_of (in_mapped (question setup k) held packet among).is
 
-  tick_sends : (k : Kept) (moment : ℕ) (up : List ℕ → Bool) → SendsOwn setup (stepped_up setup k (Tick moment up))
-  tick_sends k moment up =
+  tick_sends : (k : Kept) (moment : ℕ) (reach : Reach) → SendsOwn setup (stepped_up setup k (Tick moment reach))
+  tick_sends k moment reach =
       let risen : Kept = ticked k (max k.clock moment) in
-      both_sent setup.node (asked_again setup risen) (ruled_each setup up (ids_of risen) risen).packets
-      (questions_sent risen (filter (is_untold setup.nodes) risen.held)) (rules_sent up (ids_of risen) risen)
+      both_sent setup.node (asked_again setup risen) (ruled_each setup reach (ids_of risen) risen).packets
+      (questions_sent risen (filter (is_untold setup.nodes) risen.held)) (rules_sent reach (ids_of risen) risen)
 
   step_up_sends : (k : Kept) (input : Input) → SendsOwn setup (stepped_up setup k input)
   step_up_sends k (Delivery packet) = packet_sends k packet
   step_up_sends k (Crash packet after) = none_sent setup.node
   step_up_sends k (Arrival request) = arrival_sends k request
   step_up_sends k (Refusal status) = none_sent setup.node
-  step_up_sends k (Tick moment up) = tick_sends k moment up
+  step_up_sends k (Tick moment reach) = tick_sends k moment reach
   step_up_sends k (Grant slot) = none_sent setup.node
   step_up_sends k (Response slot outcome) =
       start_sent (closed_by k slot outcome) slot.id (concluded setup k slot outcome (message_at k slot.id).known)

@@ -7,7 +7,7 @@ use desk::Request;
 use lines_of_tests::{Answer, account, first_id, request, told_in};
 use mc_types::Moment;
 use node_core::{Life, Permit};
-use node_threads::{Action, Begins, Cluster, Refusal, Seat};
+use node_threads::{Action, Begins, Cluster, Reach, Refusal, Seat};
 use stable_store::ListStore;
 use std::alloc::Global;
 use std::process::Abort;
@@ -51,7 +51,7 @@ fn ticking(rt: &impl Abort, alloc: Global) -> Option<Action> {
     Some(Action::Tick {
         node: only_node(rt),
         moment: Moment::least(),
-        up,
+        reach: Reach::of_all(up),
     })
 }
 

@@ -3,7 +3,7 @@ use Rattle.std.specs.Prelude.{◌≡◌, ℕ, Bool, true, false, List, codes, Op
 use Rattle.toml.specs.Data.{Data, as_str, get}
 use Rattle.config.specs.declared.own.Own.{Own}
 use Rattle.config.specs.declared.own_key.OwnKey.{OwnKey}
-use Rattle.config.specs.declared.own_key.OwnKey.TheVariants.{IdleSeconds, BindSeconds, WriteSeconds, Sessions, PartEntries}
+use Rattle.config.specs.declared.own_key.OwnKey.TheVariants.{IdleSeconds, BindSeconds, WriteSeconds, LingerSeconds, Sessions, PartEntries}
 use Rattle.config.specs.declared.own_fault.OwnFault.{OwnFault}
 use Rattle.config.specs.declared.own_fault.OwnFault.TheVariants as faults
 pub use Rattle.config.specs.Config.{IsDocument}
@@ -32,6 +32,7 @@ own_at row = record {
   idle_seconds = limit_at row IdleSeconds;
   bind_seconds = limit_at row BindSeconds;
   write_seconds = limit_at row WriteSeconds;
+  linger_seconds = limit_at row LingerSeconds;
   sessions = limit_at row Sessions;
   part_entries = limit_at row PartEntries;
   ends_full = ends_full_at row;
@@ -58,7 +59,8 @@ IsOwnIn row (Err faults.Memory) = ⊥
 
 -- nothing under `own` is no limit
 abbrev pub no_limits : Own
-no_limits = record { idle_seconds = 0; bind_seconds = 0; write_seconds = 0; sessions = 0; part_entries = 0; ends_full = false }
+no_limits =
+    record { idle_seconds = 0; bind_seconds = 0; write_seconds = 0; linger_seconds = 0; sessions = 0; part_entries = 0; ends_full = false }
 
 abbrev pub IsOwnUnder : Option Data → Result Own OwnFault → Type 0
 IsOwnUnder None result = result ≡ Ok no_limits

@@ -22,6 +22,8 @@ pub struct Own {
     pub bind_seconds: u32,
     /// How many seconds a write to a session may take.
     pub write_seconds: u32,
+    /// For how many seconds attempts wait for an account of which no session may receive any more.
+    pub linger_seconds: u32,
     /// How many sessions a node may have.
     pub sessions: u32,
     /// After how many entries a part of the journal is to end.
@@ -44,6 +46,7 @@ pub fn read_own(alloc: Global, octets: &[u8]) -> Result<Own, OwnFault>
             idle_seconds: 0,
             bind_seconds: 0,
             write_seconds: 0,
+            linger_seconds: 0,
             sessions: 0,
             part_entries: 0,
             ends_full: false,
@@ -74,6 +77,7 @@ fn own_in(table: &Value) -> Result<Own, OwnFault>
         idle_seconds: limit(table, OwnKey::IdleSeconds)?,
         bind_seconds: limit(table, OwnKey::BindSeconds)?,
         write_seconds: limit(table, OwnKey::WriteSeconds)?,
+        linger_seconds: limit(table, OwnKey::LingerSeconds)?,
         sessions: limit(table, OwnKey::Sessions)?,
         part_entries: limit(table, OwnKey::PartEntries)?,
         ends_full: ends_full(table)?,

@@ -14,6 +14,8 @@ pub enum OwnKey {
     BindSeconds,
     /// How many seconds a write to a session may take, at most 86,400.
     WriteSeconds,
+    /// For how many seconds attempts wait for an account of which no session may receive any more, at most 86,400.
+    LingerSeconds,
     /// How many sessions a node may have, at most 65,535.
     Sessions,
     /// After how many entries a part of the journal is to end, at most 150,000.
@@ -38,6 +40,7 @@ impl OwnKey {
             OwnKey::IdleSeconds => "idle_seconds",
             OwnKey::BindSeconds => "bind_seconds",
             OwnKey::WriteSeconds => "write_seconds",
+            OwnKey::LingerSeconds => "linger_seconds",
             OwnKey::Sessions => "sessions",
             OwnKey::PartEntries => "part_entries",
         }
@@ -48,7 +51,10 @@ impl OwnKey {
         ensures { result ≡ most_in self }
     {
         match self {
-            OwnKey::IdleSeconds | OwnKey::BindSeconds | OwnKey::WriteSeconds => MOST_SECONDS,
+            OwnKey::IdleSeconds
+            | OwnKey::BindSeconds
+            | OwnKey::WriteSeconds
+            | OwnKey::LingerSeconds => MOST_SECONDS,
             OwnKey::Sessions => MOST_SESSIONS,
             OwnKey::PartEntries => MOST_PART_ENTRIES,
         }

@@ -23,6 +23,7 @@ colour = "blue"
         idle_seconds: 86_400,
         bind_seconds: 0,
         write_seconds: 0,
+        linger_seconds: 0,
         sessions: 65_535,
         part_entries: 0,
         ends_full: false,
@@ -37,6 +38,7 @@ fn each_limit_has_its_key(rt: HostRuntime) {
 idle_seconds = 1
 bind_seconds = 2
 write_seconds = 3
+linger_seconds = 86400
 sessions = 4
 part_entries = 150000
 full = "end"
@@ -45,6 +47,7 @@ full = "end"
         idle_seconds: 1,
         bind_seconds: 2,
         write_seconds: 3,
+        linger_seconds: 86_400,
         sessions: 4,
         part_entries: 150_000,
         ends_full: true,
@@ -58,6 +61,7 @@ fn no_table_is_no_limit(rt: HostRuntime) {
         idle_seconds: 0,
         bind_seconds: 0,
         write_seconds: 0,
+        linger_seconds: 0,
         sessions: 0,
         part_entries: 0,
         ends_full: false,

@@ -17,7 +17,8 @@ names_in Nodes = codes "number" ∷ codes "listen" ∷ codes "store" ∷ []
 names_in Accounts = codes "system_id" ∷ codes "password" ∷ codes "transmit" ∷ codes "receive" ∷ []
 names_in Routes = codes "prefix" ∷ codes "account" ∷ []
 names_in Own =
-    codes "idle_seconds" ∷ codes "bind_seconds" ∷ codes "write_seconds" ∷ codes "sessions" ∷ codes "part_entries" ∷ codes "full" ∷ []
+    codes "idle_seconds" ∷ codes "bind_seconds" ∷ codes "write_seconds" ∷ codes "linger_seconds" ∷ codes "sessions" ∷ codes "part_entries"
+    ∷ codes "full" ∷ []
 
 abbrev pub is_known : Section → List ℕ → Bool
 is_known section name = list_any (bytes_eq name) (names_in section)

@@ -70,6 +70,7 @@ fn is_of_own(name: &str) -> bool
     name == "idle_seconds"
         || name == "bind_seconds"
         || name == "write_seconds"
+        || name == "linger_seconds"
         || name == "sessions"
         || name == "part_entries"
         || name == "full"

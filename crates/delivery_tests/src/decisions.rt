@@ -5,11 +5,10 @@ use crate::same::assert_same;
 use delivery::{DueDecree, Outcome};
 use fate_chain::{Author, Chain, ErrorCode, Final, Kind};
 use mc_types::{Ballot, Incarnation, Moment, NodeNo};
-use pdu_codec::{SystemId, Text};
 use std::alloc::Global;
 use std::process::Abort;
 use synod_acceptor::Vote;
-use tick_rules::{Attempted, Closing, Due, Standpoint, follow, until_due};
+use tick_rules::{Attempted, Closing, Due, Reached, Standpoint, follow, until_due};
 
 /// What was done with the attempt.
 #[derive(Clone, Copy)]
@@ -52,30 +51,29 @@ fn standpoint(rt: &impl Abort, incarnation: u16) -> Standpoint {
     }
 }
 
-/// The account of which a session may receive.
-#[derive(Clone, Copy)]
-enum Up {
-    Sme1,
-    Sme2,
-}
+/// A session of the account sme1 may receive, and an attempt may begin.
+const UP: Reached = Reached {
+    up: true,
+    begins: true,
+};
 
-fn accounts(rt: &impl Abort, alloc: Global, up: Up) -> Vec<SystemId> {
-    let name = match up {
-        Up::Sme1 => b"sme1",
-        Up::Sme2 => b"sme2",
-    };
-    let text = Text::make(alloc, name).expect(rt, "memory");
-    let mut accounts = Vec::new(alloc);
-    let put = accounts.push(text.expect(rt, "a text"));
-    put.expect(rt, "memory");
-    accounts
-}
+/// One may receive, and no attempt may begin.
+const HELD_BACK: Reached = Reached {
+    up: true,
+    begins: false,
+};
+
+/// None may receive.
+const DOWN: Reached = Reached {
+    up: false,
+    begins: false,
+};
 
 /// What a node is asked.
 #[derive(Clone, Copy)]
 enum Asked {
-    /// What is due, by what was done with the attempt, whether a cancel_sm waits, and which account may receive.
-    Due(Done, bool, Up),
+    /// What is due, by what was done with the attempt, whether a cancel_sm waits, and what a tick says of the message.
+    Due(Done, bool, Reached),
     /// Whether the message is deleted, if a cancel_sm waits or not.
     Deletion(bool),
     /// What is due once the attempt is closed: the message was delivered.
@@ -95,11 +93,8 @@ fn decided(
     let here = standpoint(rt, incarnation);
     let chain = chain(rt, alloc, 1, steps);
     let decided = match asked {
-        Asked::Due(done, cancelled, up) => {
-            let up = accounts(rt, alloc, up);
-            let due = here.due(&chain, attempted(done), cancelled, &up);
-            drop(up);
-            due
+        Asked::Due(done, cancelled, reached) => {
+            here.due(&chain, attempted(done), cancelled, reached)
         }
         Asked::Deletion(cancelled) => here.deletion(&chain, cancelled),
         Asked::End => here.end(&chain, closing()),
@@ -130,21 +125,14 @@ fn an_attempt_is_closed_lost_or_given_up(rt: HostRuntime) {
         &[
             (
                 1,
-                Asked::Due(Done::Closed, false, Up::Sme1),
+                Asked::Due(Done::Closed, false, UP),
                 Some(Due::Close(closing())),
             ),
-            (1, Asked::Due(Done::Granted, false, Up::Sme1), None),
-            (
-                2,
-                Asked::Due(Done::Nothing, true, Up::Sme1),
-                Some(Due::Lose),
-            ),
-            (
-                1,
-                Asked::Due(Done::Nothing, false, Up::Sme2),
-                Some(Due::GiveUp),
-            ),
-            (1, Asked::Due(Done::Granted, false, Up::Sme2), None),
+            (1, Asked::Due(Done::Granted, false, UP), None),
+            (2, Asked::Due(Done::Nothing, true, UP), Some(Due::Lose)),
+            (1, Asked::Due(Done::Nothing, false, DOWN), Some(Due::GiveUp)),
+            (1, Asked::Due(Done::Nothing, false, HELD_BACK), None),
+            (1, Asked::Due(Done::Granted, false, DOWN), None),
             (1, Asked::End, Some(Due::Close(closing()))),
             (2, Asked::End, None),
         ],
@@ -156,17 +144,19 @@ fn a_message_that_waits_is_deleted_before_it_is_attempted(rt: HostRuntime) {
     let alloc = rt.alloc();
     let first = Some(Due::Decree(DueDecree::Attempt(1)));
     let on_taken = [
-        (1, Asked::Due(Done::Nothing, false, Up::Sme1), first),
+        (1, Asked::Due(Done::Nothing, false, UP), first),
+        (1, Asked::Due(Done::Nothing, true, UP), Some(Due::Delete)),
+        (1, Asked::Due(Done::Nothing, false, HELD_BACK), None),
         (
             1,
-            Asked::Due(Done::Nothing, true, Up::Sme1),
+            Asked::Due(Done::Nothing, true, HELD_BACK),
             Some(Due::Delete),
         ),
         (1, Asked::Deletion(true), Some(Due::Delete)),
         (1, Asked::Deletion(false), None),
     ];
     let on_open = [
-        (1, Asked::Due(Done::Nothing, true, Up::Sme1), None),
+        (1, Asked::Due(Done::Nothing, true, UP), None),
         (1, Asked::Deletion(true), None),
     ];
     assert_decided(&rt, alloc, &[], &on_taken);
@@ -178,20 +168,12 @@ fn a_message_that_waits_is_deleted_before_it_is_attempted(rt: HostRuntime) {
 fn a_fate_of_which_a_receipt_is_asked_is_told_once(rt: HostRuntime) {
     let alloc = rt.alloc();
     let told = [
-        (
-            1,
-            Asked::Due(Done::Nothing, false, Up::Sme2),
-            Some(Due::Told),
-        ),
-        (
-            2,
-            Asked::Due(Done::Nothing, true, Up::Sme1),
-            Some(Due::Told),
-        ),
+        (1, Asked::Due(Done::Nothing, false, DOWN), Some(Due::Told)),
+        (2, Asked::Due(Done::Nothing, true, UP), Some(Due::Told)),
         (1, Asked::Telling, Some(Due::Told)),
     ];
     let nothing = [
-        (1, Asked::Due(Done::Nothing, false, Up::Sme1), None),
+        (1, Asked::Due(Done::Nothing, false, UP), None),
         (1, Asked::Telling, None),
     ];
     assert_decided(&rt, alloc, TO_EXPIRED, &told);
@@ -207,14 +189,12 @@ fn due_after(
     alloc: Global,
     steps: &[Step],
     incarnation: u16,
-    by: (Done, Up),
+    by: (Done, Reached),
 ) -> Option<u32> {
-    let (done, up) = by;
+    let (done, reached) = by;
     let author = standpoint(rt, incarnation).author;
     let chain = chain(rt, alloc, 1, steps);
-    let up = accounts(rt, alloc, up);
-    let until = until_due(author, &chain, attempted(done), &up);
-    drop(up);
+    let until = until_due(author, &chain, attempted(done), reached);
     drop(chain);
     Some(until?.seconds().saturating_sub(TAKEN))
 }
@@ -225,35 +205,36 @@ const FAILED: [Step; 2] = [Step::Attempt(0, 1), Step::Failed(30, 100)];
 fn nothing_is_due_until_the_expiry_or_the_next_attempt(rt: HostRuntime) {
     let alloc = rt.alloc();
     let found = [
-        due_after(&rt, alloc, &[], 1, (Done::Nothing, Up::Sme1)),
-        due_after(&rt, alloc, &[], 1, (Done::Nothing, Up::Sme2)),
-        due_after(&rt, alloc, &FAILED, 1, (Done::Nothing, Up::Sme1)),
-        due_after(&rt, alloc, &FAILED, 1, (Done::Nothing, Up::Sme2)),
+        due_after(&rt, alloc, &[], 1, (Done::Nothing, UP)),
+        due_after(&rt, alloc, &[], 1, (Done::Nothing, DOWN)),
+        due_after(&rt, alloc, &[], 1, (Done::Nothing, HELD_BACK)),
+        due_after(&rt, alloc, &FAILED, 1, (Done::Nothing, UP)),
+        due_after(&rt, alloc, &FAILED, 1, (Done::Nothing, DOWN)),
+        due_after(&rt, alloc, &FAILED, 1, (Done::Nothing, HELD_BACK)),
     ];
-    assert_same(&rt, &found, &[None, Some(259_200), Some(90), Some(259_200)]);
+    let expiry = Some(259_200);
+    assert_same(
+        &rt,
+        &found,
+        &[None, expiry, expiry, Some(90), expiry, expiry],
+    );
 }
 
 #[test]
 fn nothing_is_due_while_an_attempt_is_open(rt: HostRuntime) {
     let alloc = rt.alloc();
     let found = [
-        due_after(&rt, alloc, &OPEN, 1, (Done::Granted, Up::Sme2)),
-        due_after(&rt, alloc, &OPEN, 1, (Done::Nothing, Up::Sme2)),
-        due_after(&rt, alloc, &OPEN, 1, (Done::Closed, Up::Sme1)),
-        due_after(&rt, alloc, &OPEN, 2, (Done::Granted, Up::Sme1)),
+        due_after(&rt, alloc, &OPEN, 1, (Done::Granted, DOWN)),
+        due_after(&rt, alloc, &OPEN, 1, (Done::Nothing, DOWN)),
+        due_after(&rt, alloc, &OPEN, 1, (Done::Closed, UP)),
+        due_after(&rt, alloc, &OPEN, 2, (Done::Granted, UP)),
     ];
     assert_same(&rt, &found, &[Some(2_395_785_599), None, None, None]);
 }
 
 #[test]
 fn nothing_is_due_behind_a_told(rt: HostRuntime) {
-    let found = due_after(
-        &rt,
-        rt.alloc(),
-        TOLD_DELIVERED,
-        1,
-        (Done::Nothing, Up::Sme1),
-    );
+    let found = due_after(&rt, rt.alloc(), TOLD_DELIVERED, 1, (Done::Nothing, UP));
     assert_same(&rt, &found, &Some(2_395_785_599));
 }
 

@@ -8,7 +8,7 @@ use Rattle.node_core.specs.Found.{Found}
 use Rattle.world_runs.specs.Given.{Given}
 use Rattle.world_runs.specs.Step.{Step}
 use Rattle.world_runs.specs.Step.TheVariants as steps
-use Rattle.world_runs.specs.Runs.{node_at}
+use Rattle.world_runs.specs.Taking.{node_at}
 use Rattle.world_runs.specs.Traces.{BeginsAnew, Event, Tried, events_of}
 use Rattle.journal_laws.specs.Journals.{Done, Entry, Unfinished, answers_given, done_in, steps_done, steps_for, stop_of}
 use Rattle.journal_laws.specs.Telling.{LivesOn}

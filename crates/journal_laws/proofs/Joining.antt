@@ -12,7 +12,7 @@ use Rattle.mc_parts.proofs.Membership.{in_either, in_left, in_right}
 use Rattle.node_model.specs.Kept.{Kept}
 use Rattle.node_model.specs.Stepped.{stepped}
 use Rattle.node_laws.specs.Clusters.{NodeInput, kept_reached}
-use Rattle.world_runs.specs.Runs.{node_at}
+use Rattle.world_runs.specs.Taking.{node_at}
 use Rattle.journal_laws.specs.Journals.{Done, Entry, IsInRange, IsJournal, IsOwnRun, RunsOn, WereSent, done_in, entries_at, packets_sent, steps_for}
 use Rattle.journal_laws.specs.Joining.{IsCut}
 use Rattle.journal_laws.proofs.Running.{packets_more, runs_on}

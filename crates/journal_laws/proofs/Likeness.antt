@@ -6,21 +6,22 @@ use Rattle.mc_model.specs.node.Setup.{Setup}
 use Rattle.node_model.specs.Kept.{Kept}
 use Rattle.node_model.specs.Stepped.{stepped}
 use Rattle.delivery.specs.Targets.{is_up}
+use Rattle.node_core.specs.Reaching.{may_of}
 use Rattle.world_runs.specs.Copies.{IsCopy}
-use Rattle.world_runs.specs.Runs.{node_at}
+use Rattle.world_runs.specs.Taking.{node_at}
 use Rattle.world_runs.specs.Step.{Step}
 use Rattle.world_runs.specs.Step.TheVariants as steps
 use Rattle.journal_laws.specs.Journals.{Done, Entry, IsOwnRun, IsOwnStep, Unfinished, ComesBy, done_in, outputs_done, steps_for, stop_of}
 use Rattle.journal_laws.specs.Likeness.{AreAllAlike, AreLike}
 
 pub same_node : (one other : Step) → IsCopy one other → node_at other ≡ node_at one
-same_node (steps.Tick node moment up) (steps.Tick same then others) copy = copy.0
-same_node (steps.Tick node moment up) (steps.Deliver number other) copy = absurd copy
-same_node (steps.Tick node moment up) (steps.Request other account request) copy = absurd copy
-same_node (steps.Tick node moment up) (steps.Grant other id) copy = absurd copy
-same_node (steps.Tick node moment up) (steps.Answered other slot outcome) copy = absurd copy
-same_node (steps.Tick node moment up) (steps.Crash other number found) copy = absurd copy
-same_node (steps.Tick node moment up) (steps.Restart other) copy = absurd copy
+same_node (steps.Tick node moment reach) (steps.Tick same then others) copy = copy.0
+same_node (steps.Tick node moment reach) (steps.Deliver number other) copy = absurd copy
+same_node (steps.Tick node moment reach) (steps.Request other account request) copy = absurd copy
+same_node (steps.Tick node moment reach) (steps.Grant other id) copy = absurd copy
+same_node (steps.Tick node moment reach) (steps.Answered other slot outcome) copy = absurd copy
+same_node (steps.Tick node moment reach) (steps.Crash other number found) copy = absurd copy
+same_node (steps.Tick node moment reach) (steps.Restart other) copy = absurd copy
 same_node (steps.Deliver number node) other copy = ap node_at copy
 same_node (steps.Request node account request) other copy = ap node_at copy
 same_node (steps.Grant node id) other copy = ap node_at copy
@@ -30,14 +31,14 @@ same_node (steps.Restart node) other copy = ap node_at copy
 
 comes_alike : (setup : Setup) (k : Kept) (packet : Option Packet) (input : Input) (one other : Step) → IsCopy one other →
     ComesBy setup k one packet input → ComesBy setup k other packet input
-comes_alike setup k packet input (steps.Tick node moment up) (steps.Tick same then others) copy comes =
-    comes ∙ (λ i. Tick (sym copy.1 i) (is_up (sym copy.2 i)))
-comes_alike setup k packet input (steps.Tick node moment up) (steps.Deliver number other) copy comes = absurd copy
-comes_alike setup k packet input (steps.Tick node moment up) (steps.Request other account request) copy comes = absurd copy
-comes_alike setup k packet input (steps.Tick node moment up) (steps.Grant other id) copy comes = absurd copy
-comes_alike setup k packet input (steps.Tick node moment up) (steps.Answered other slot outcome) copy comes = absurd copy
-comes_alike setup k packet input (steps.Tick node moment up) (steps.Crash other number found) copy comes = absurd copy
-comes_alike setup k packet input (steps.Tick node moment up) (steps.Restart other) copy comes = absurd copy
+comes_alike setup k packet input (steps.Tick node moment reach) (steps.Tick same then others) copy comes =
+    comes ∙ (λ i. Tick (sym copy.1 i) (record { up = is_up (sym copy.2.0 i); may = may_of (sym copy.2.1 i) }))
+comes_alike setup k packet input (steps.Tick node moment reach) (steps.Deliver number other) copy comes = absurd copy
+comes_alike setup k packet input (steps.Tick node moment reach) (steps.Request other account request) copy comes = absurd copy
+comes_alike setup k packet input (steps.Tick node moment reach) (steps.Grant other id) copy comes = absurd copy
+comes_alike setup k packet input (steps.Tick node moment reach) (steps.Answered other slot outcome) copy comes = absurd copy
+comes_alike setup k packet input (steps.Tick node moment reach) (steps.Crash other number found) copy comes = absurd copy
+comes_alike setup k packet input (steps.Tick node moment reach) (steps.Restart other) copy comes = absurd copy
 comes_alike setup k packet input (steps.Deliver number node) other copy comes = subst (λ (step : Step). ComesBy setup k step packet input) (sym copy) comes
 comes_alike setup k packet input (steps.Request node account request) other copy comes =
     subst (λ (step : Step). ComesBy setup k step packet input) (sym copy) comes

@@ -18,7 +18,8 @@ use Rattle.world_runs.specs.WorldFault.TheVariants as faults
 use Rattle.world_runs.specs.Given.{Given}
 use Rattle.world_runs.specs.Step.{Step}
 use Rattle.world_runs.specs.Step.TheVariants as steps
-use Rattle.world_runs.specs.Runs.{Comes, IsGiven, away, node_at, or_else, refusal_of, unsent}
+use Rattle.world_runs.specs.Runs.{Comes, IsGiven, away, or_else, refusal_of, unsent}
+use Rattle.world_runs.specs.Taking.{node_at}
 use Rattle.world_runs.specs.Traces.{Answer, Reaches, events_of}
 use Rattle.world_runs.proofs.Events.{goes_on_by, reached_by}
 use Rattle.journal_laws.specs.Journals.{CameAsSent, ComesBy, Done, Entry, IsInRange, IsOwnRun, IsOwnStep, WereSent}
@@ -52,7 +53,7 @@ module _ (cluster : Cluster) (behind : ℕ) (w : KeptCluster) where
   brought (steps.Deliver number node) next allowed came =
       record { input = _; next_is = came.2; packet = Some came.0; comes = refl; was = (has_number number node allowed, came.1) }
   brought (steps.Request node account request) next allowed came = record { input = _; next_is = came; packet = None; comes = refl; was = record {} }
-  brought (steps.Tick node moment up) next allowed came = record { input = _; next_is = came; packet = None; comes = refl; was = record {} }
+  brought (steps.Tick node moment reach) next allowed came = record { input = _; next_is = came; packet = None; comes = refl; was = record {} }
   brought (steps.Grant node id) next allowed came = record { input = _; next_is = came; packet = None; comes = refl; was = record {} }
   brought (steps.Answered node slot outcome) next allowed came = record { input = _; next_is = came; packet = None; comes = refl; was = record {} }
   brought (steps.Crash node number found) next allowed came =

@@ -13,6 +13,7 @@ use Rattle.mc_model.specs.node.FirstRule.{Announce, Close, Delete, Expire, Follo
 use Rattle.mc_model.specs.node.Actor.{id_in}
 use Rattle.mc_model.specs.node.Input.{Arrival, Crash, Delivery, Grant, Input, Refusal, Response, Restart, Tick}
 use Rattle.mc_model.specs.node.Replies.{Answer}
+use Rattle.mc_model.specs.node.Reach.{Reach}
 use Rattle.mc_model.specs.node.Setup.{Setup}
 use Rattle.mc_model.specs.cluster.Steps.{Cluster, setup_of}
 use Rattle.shelf.proofs.Entries.{still_ascends}
@@ -149,15 +150,15 @@ rules_one setup k id (Some fit) lists =
     let place = pred fit.start.place in
     starts setup (given_up fit.rule k id place) id (Some fit.start) (gives_up fit.rule k id place lists)
 
-rules_each : (setup : Setup) (up : List ℕ → Bool) (ids : List ℕ) (k : Kept) → ListsRecorded k → ListsRecorded (ruled_each setup up ids k).kept
-rules_each setup up [] k lists = lists
-rules_each setup up (id ∷ others) k lists =
-    let fit = first_rule setup k up id in
-    rules_each setup up others (ruled setup k id fit).kept (rules_one setup k id fit lists)
+rules_each : (setup : Setup) (reach : Reach) (ids : List ℕ) (k : Kept) → ListsRecorded k → ListsRecorded (ruled_each setup reach ids k).kept
+rules_each setup reach [] k lists = lists
+rules_each setup reach (id ∷ others) k lists =
+    let fit = first_rule setup k reach id in
+    rules_each setup reach others (ruled setup k id fit).kept (rules_one setup k id fit lists)
 
-ticks : (setup : Setup) (k : Kept) (clock : ℕ) (up : List ℕ → Bool) → ListsRecorded k →
-    ListsRecorded (ruled_each setup up (ids_of (ticked k clock)) (ticked k clock)).kept
-ticks setup k clock up lists = rules_each setup up (ids_of (ticked k clock)) (ticked k clock) (record {
+ticks : (setup : Setup) (k : Kept) (clock : ℕ) (reach : Reach) → ListsRecorded k →
+    ListsRecorded (ruled_each setup reach (ids_of (ticked k clock)) (ticked k clock)).kept
+ticks setup k clock reach lists = rules_each setup reach (ids_of (ticked k clock)) (ticked k clock) (record {
   ascend = subst (IsStrictlySortedBy nat_cmp) (sym (keys_unrounded k.messages)) lists.ascend;
   all = λ id is. subst (λ (ids : List ℕ). In id ids) (sym (keys_unrounded k.messages)) (lists.all id is);
 })
@@ -190,7 +191,7 @@ up_steps setup k (Arrival request) lists =
     let new = begun k.ticket k.clock request in
     starts setup (waits_too k request new) (id_in request) (take_for setup k new request) (record { ascend = lists.ascend; all = lists.all })
 up_steps setup k (Refusal status) lists = lists
-up_steps setup k (Tick moment up) lists = ticks setup k _ up lists
+up_steps setup k (Tick moment reach) lists = ticks setup k _ reach lists
 up_steps setup k (Grant slot) lists = put k slot.id _ lists
 up_steps setup k (Response slot outcome) lists =
     starts setup (closed_by k slot outcome) slot.id (concluded setup k slot outcome (message_at k slot.id).known) (put k slot.id _ lists)
@@ -201,7 +202,7 @@ down_steps setup k (Delivery packet) lists = lists
 down_steps setup k (Crash packet behind) lists = lists
 down_steps setup k (Arrival request) lists = lists
 down_steps setup k (Refusal status) lists = lists
-down_steps setup k (Tick moment up) lists = lists
+down_steps setup k (Tick moment reach) lists = lists
 down_steps setup k (Grant slot) lists = lists
 down_steps setup k (Response slot outcome) lists = lists
 down_steps setup k (Restart lost) lists = starts_anew setup k lost lists

@@ -1,6 +1,5 @@
 -- The worked journal of a node that opens over the store that it left is one.
 use Rattle.std.proofs.Common.{◌≡◌, ℕ, ◌+◌, ◌<◌, List, [], None, Some, refl, sym, ap, subst, inl, inr, arith}
-use Rattle.std.specs.Global.{Vec}
 use Rattle.mc_model.specs.message.Chain.{IsPermitted}
 use Rattle.mc_model.specs.synod.Packet.{Packet, Prepare, Promise, Propose, Voted}
 use Rattle.mc_model.specs.synod.Lists.{In}
@@ -14,9 +13,11 @@ use Rattle.node_model.specs.Recorded.{has_record}
 use Rattle.node_model.specs.Stepped.{stepped}
 use Rattle.node_laws.specs.Clusters.{MayHappen, kept_reached}
 use Rattle.node_laws.specs.Examples.{deleted}
-use Rattle.delivery.specs.Targets.{is_up}
 use Rattle.world_runs.specs.Given.{Given}
-use Rattle.world_runs.specs.Runs.{given_out, node_at}
+use Rattle.world_runs.specs.Reach.{Reach}
+use Rattle.world_runs.specs.Reaching.{reach_of}
+use Rattle.world_runs.specs.Runs.{given_out}
+use Rattle.world_runs.specs.Taking.{node_at}
 use Rattle.journal_laws.specs.Journals.{Entry, IsInRange, IsOwnRun, WereSent, done_in, entries_at}
 use Rattle.journal_laws.specs.OldStores.{AreLeft, IsJournalOver, kept_opened}
 use Rattle.journal_laws.specs.Example.{IsQuiet, alone}
@@ -121,9 +122,9 @@ left = record {
       subst (λ (n : ℕ). ((kept_reached alone cancelled).kept n).incarnation + none_lost n < 9999) (is_one node one) (omega arith);
 }
 
-module _ (quiet : ℕ → Given) (is : IsQuiet quiet) (telling : Given) (tells : TellsIt telling) (up : Vec (List ℕ)) where
+module _ (quiet : ℕ → Given) (is : IsQuiet quiet) (telling : Given) (tells : TellsIt telling) (reach : Reach) where
   abbrev ticked : Kept
-  ticked = then opened (Tick midnight (is_up up.items))
+  ticked = then opened (Tick midnight (reach_of reach))
 
   abbrev promised : Kept
   promised = then ticked (Delivery (Prepare 1 next_slot following_ballot))
@@ -152,10 +153,10 @@ module _ (quiet : ℕ → Given) (is : IsQuiet quiet) (telling : Given) (tells :
   gave : (count : ℕ) (packets : List Packet) → record nothing { packets = packets } ≡ record (given_out (quiet count)) { packets = packets }
   gave count packets = ap (λ (o : Outputs). record o { packets = packets }) (sym (is count).0)
 
-  own_run : IsOwnRun setup opened (done_in (entries_at 1 (reopened quiet telling up))) at_last
+  own_run : IsOwnRun setup opened (done_in (entries_at 1 (reopened quiet telling reach))) at_last
   unfolding has_record
   own_run = (
-    record { input = Tick midnight (is_up up.items); comes = refl; up = refl; may = record {}; gives = gave 1 _; count = (is 1).1 },
+    record { input = Tick midnight (reach_of reach); comes = refl; up = refl; may = record {}; gives = gave 1 _; count = (is 1).1 },
     (
       record { input = Delivery (Prepare 1 next_slot following_ballot); comes = refl; up = refl; may = record {}; gives = gave 1 _; count = (is 1).1 },
       (
@@ -190,7 +191,7 @@ module _ (quiet : ℕ → Given) (is : IsQuiet quiet) (telling : Given) (tells :
     ),
   )
 
-  were_sent : WereSent 0 [] (done_in (reopened quiet telling up))
+  were_sent : WereSent 0 [] (done_in (reopened quiet telling reach))
   were_sent = (
     record {},
     (
@@ -220,7 +221,7 @@ module _ (quiet : ℕ → Given) (is : IsQuiet quiet) (telling : Given) (tells :
   in_node : (entry first : Entry) → entry ≡ first → node_at first.done.step ≡ 1 → IsInRange alone (node_at entry.done.step)
   in_node entry first same one = subst (λ (e : Entry). IsInRange alone (node_at e.done.step)) (sym same) (subst (IsInRange alone) (sym one) (omega arith, omega arith))
 
-  in_range : (entry : Entry) → In entry (reopened quiet telling up) → IsInRange alone (node_at entry.done.step)
+  in_range : (entry : Entry) → In entry (reopened quiet telling reach) → IsInRange alone (node_at entry.done.step)
   in_range entry (inl same) = in_node entry _ same refl
   in_range entry (inr (inl same)) = in_node entry _ same refl
   in_range entry (inr (inr (inl same))) = in_node entry _ same refl
@@ -232,13 +233,13 @@ module _ (quiet : ℕ → Given) (is : IsQuiet quiet) (telling : Given) (tells :
   in_range entry (inr (inr (inr (inr (inr (inr (inr (inr (inl same))))))))) = in_node entry _ same refl
   in_range entry (inr (inr (inr (inr (inr (inr (inr (inr (inr none))))))))) = absurd none
 
-  pub is_journal : IsJournalOver alone cancelled none_new none_lost (reopened quiet telling up) (λ node. at_last)
+  pub is_journal : IsJournalOver alone cancelled none_new none_lost (reopened quiet telling reach) (λ node. at_last)
   is_journal = record {
     left = left;
     nodes = in_range;
     own = λ node one.
         subst
-        (λ (n : ℕ). IsOwnRun (setup_of alone n) (kept_opened alone cancelled none_new none_lost n) (done_in (entries_at n (reopened quiet telling up))) at_last)
+        (λ (n : ℕ). IsOwnRun (setup_of alone n) (kept_opened alone cancelled none_new none_lost n) (done_in (entries_at n (reopened quiet telling reach))) at_last)
         (is_one node one)
         own_run;
     sent = were_sent;

@@ -25,7 +25,8 @@ use Rattle.pdu_tables.specs.declared.status.Status.{Status}
 use Rattle.world_runs.specs.WorldFault.TheVariants as faults
 use Rattle.world_runs.specs.Step.{Step}
 use Rattle.world_runs.specs.Step.TheVariants as steps
-use Rattle.world_runs.specs.Runs.{Comes, IsGiven, absent, away, node_at, or_else, refusal_of, last_incarnation, unsent}
+use Rattle.world_runs.specs.Runs.{Comes, IsGiven, absent, away, or_else, refusal_of, last_incarnation, unsent}
+use Rattle.world_runs.specs.Taking.{node_at}
 use Rattle.world_runs.specs.Traces.{Reaches}
 use Rattle.journal_laws.specs.Journals.{ComesBy, Done, Entry, IsJournal, IsInRange, HasItsNumber, IsOwnRun, RunsOn, Unfinished, CameAsSent, WereSent}
 use Rattle.journal_laws.specs.Journals.{done_in, entries_at, outputs_done, steps_for, stop_of}

@@ -38,7 +38,7 @@ comes_so setup k node number (inputs.Packet packet) = refl
 comes_so setup k node number (inputs.Request account request) = refl
 comes_so setup k node number (inputs.Grant id) = refl
 comes_so setup k node number (inputs.Answered slot outcome) = refl
-comes_so setup k node number (inputs.Tick moment up) = refl
+comes_so setup k node number (inputs.Tick moment reach) = refl
 
 judged_up : (k : Kept) → k.up ≡ true → (r : Result Request Status) → IsUpFor k (judged_as r)
 judged_up k up (Ok request) = up
@@ -49,7 +49,7 @@ up_for node (inputs.Packet packet) = refl
 up_for node (inputs.Request account request) = judged_up (kept_of node.kept) refl _
 up_for node (inputs.Grant id) = refl
 up_for node (inputs.Answered slot outcome) = refl
-up_for node (inputs.Tick moment up) = refl
+up_for node (inputs.Tick moment reach) = refl
 
 pub is_own_step : {S : Type 0} (old new : Standing S) (number : ℕ) (input : Input) (outputs : Outputs) →
     MayCome old.kept.setup (kept_of old.kept) (input_of old.kept.setup (kept_of old.kept) input) → HasTaken old input new outputs →

@@ -29,7 +29,8 @@ use Rattle.node_core.specs.Stops.{is_after}
 use Rattle.world_runs.specs.Given.{Given}
 use Rattle.world_runs.specs.Step.{Step}
 use Rattle.world_runs.specs.Step.TheVariants as steps
-use Rattle.world_runs.specs.Runs.{IsGiven, given_out, node_at}
+use Rattle.world_runs.specs.Runs.{IsGiven, given_out}
+use Rattle.world_runs.specs.Taking.{node_at}
 use Rattle.world_runs.specs.Traces.{Answer, Event, Reaches, Tried, answers_in, events_of, told_in}
 use Rattle.world_runs.specs.Traces.{IsAnsweredLater as IsEventAnswered, StandsOnAnAttempt as EventsStand}
 use Rattle.world_runs.proofs.Asking.{messages_are_known, queries_are_told}

@@ -14,7 +14,8 @@ use Rattle.node_laws.specs.Clusters.{MayHappen, comes_to, kept_reached}
 use Rattle.node_laws.specs.Examples.{none_up}
 use Rattle.node_laws.specs.Runs.{IsNextMessage, IsOneOf}
 use Rattle.world_runs.specs.Given.{Given}
-use Rattle.world_runs.specs.Runs.{given_out, node_at}
+use Rattle.world_runs.specs.Runs.{given_out}
+use Rattle.world_runs.specs.Taking.{node_at}
 use Rattle.journal_laws.specs.Journals.{Entry, IsInRange, IsJournal, IsOwnRun, WereSent, done_in, entries_at}
 use Rattle.journal_laws.specs.Example.{IsQuiet, alone, before, prepare, promise, propose, refused, worked}
 

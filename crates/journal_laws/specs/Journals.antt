@@ -14,14 +14,15 @@ use Rattle.node_model.specs.Stepped.{stepped}
 use Rattle.node_laws.specs.Clusters.{MayHappen, NodeInput, kept_reached}
 use Rattle.node_laws.specs.Runs.{IsUpFor, MayCome}
 use Rattle.delivery.specs.Kept.{outcome_kept}
-use Rattle.delivery.specs.Targets.{is_up}
+use Rattle.node_core.specs.Reaching.{reach_of}
 use Rattle.desk.specs.Arrivals.{requested}
 use Rattle.node_core.specs.Found.{Found}
 use Rattle.node_core.specs.Stops.{is_after}
 use Rattle.world_runs.specs.Given.{Given}
 use Rattle.world_runs.specs.Step.{Step}
 use Rattle.world_runs.specs.Step.TheVariants as steps
-use Rattle.world_runs.specs.Runs.{given_out, node_at}
+use Rattle.world_runs.specs.Runs.{given_out}
+use Rattle.world_runs.specs.Taking.{node_at}
 use Rattle.world_runs.specs.Traces.{Answer, Reaches}
 
 -- ---- what stands in a journal
@@ -73,7 +74,7 @@ entries_at node entries = filter (λ entry. node_at entry.done.step == node) ent
 abbrev pub ComesBy : Setup → Kept → Step → Option Packet → Input → Type 0
 ComesBy setup k (steps.Deliver number node) packet input = option_map Delivery packet ≡ Some input
 ComesBy setup k (steps.Request node account request) packet input = input ≡ requested setup k account request
-ComesBy setup k (steps.Tick node moment up) packet input = input ≡ Tick moment (is_up up.items)
+ComesBy setup k (steps.Tick node moment reach) packet input = input ≡ Tick moment (reach_of reach)
 ComesBy setup k (steps.Grant node id) packet input = input ≡ Grant (known_slot k id)
 ComesBy setup k (steps.Answered node slot outcome) packet input = input ≡ Response slot (outcome_kept outcome)
 ComesBy setup k (steps.Crash node number found) packet input = option_map (λ came. Crash came (is_after found)) packet ≡ Some input

@@ -6,7 +6,8 @@ use Rattle.mc_model.specs.cluster.Steps.{Cluster, setup_of}
 use Rattle.node_model.specs.Kept.{Kept}
 use Rattle.node_model.specs.Stepped.{opened_new, restarted}
 use Rattle.node_laws.specs.Clusters.{MayHappen, NodeInput, comes_to, kept_reached}
-use Rattle.world_runs.specs.Runs.{last_incarnation, node_at}
+use Rattle.world_runs.specs.Runs.{last_incarnation}
+use Rattle.world_runs.specs.Taking.{node_at}
 use Rattle.journal_laws.specs.Journals.{Entry, IsInRange, IsOwnRun, WereSent, done_in, entries_at}
 
 -- The stores that are not new were left by one run of the same nodes, of these inputs, the newest first, in which a node whose store is new took no step.

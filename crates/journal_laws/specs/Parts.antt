@@ -5,7 +5,7 @@ use Rattle.mc_model.specs.synod.Packet.{Packet}
 use Rattle.mc_model.specs.cluster.Steps.{Cluster, setup_of}
 use Rattle.node_model.specs.Kept.{Kept}
 use Rattle.node_laws.specs.Clusters.{MayHappen, NodeInput, kept_reached}
-use Rattle.world_runs.specs.Runs.{node_at}
+use Rattle.world_runs.specs.Taking.{node_at}
 use Rattle.journal_laws.specs.Journals.{Entry, IsInRange, IsOwnRun, WereSent, done_in, entries_at}
 
 -- Each entry is of a node of the cluster; each node's entries are its own run, from what it keeps where the part begins; and each packet that comes has its

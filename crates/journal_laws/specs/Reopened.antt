@@ -1,6 +1,5 @@
 -- A worked journal of a node alone that opens over the store that it left. It had told ESME_ROK to a cancel_sm; now it tells the receipt on DELETED (own).
 use Rattle.std.specs.Prelude.{◌≡◌, ℕ, Bool, false, List, [], ◌∷◌, None, Some}
-use Rattle.std.specs.Global.{Vec}
 use Rattle.mc_model.specs.message.Decree.{Decree, Told}
 use Rattle.mc_model.specs.synod.Lists.{In}
 use Rattle.mc_model.specs.synod.OneSlot.{Vote, vote_at}
@@ -13,6 +12,7 @@ use Rattle.node_model.specs.Outputs.{nothing}
 use Rattle.node_laws.specs.Clusters.{NodeInput, cluster_outputs, comes_to}
 use Rattle.node_laws.specs.Examples.{cancels, decreed_again, deleted, first_ballot, first_slot}
 use Rattle.world_runs.specs.Given.{Given}
+use Rattle.world_runs.specs.Reach.{Reach}
 use Rattle.world_runs.specs.Step.TheVariants as steps
 use Rattle.world_runs.specs.Runs.{given_out}
 use Rattle.journal_laws.specs.Example.{alone, before, prepare, promise, propose, taking}
@@ -99,9 +99,9 @@ abbrev pub telling_vote : Vote
 telling_vote = vote_at telling_ballot told_anew
 
 -- By a tick it follows the vote of its record, and knows that it is chosen; then it tells the receipt.
-abbrev pub reopened : (ℕ → Given) → Given → Vec (List ℕ) → List Entry
-reopened quiet telling up =
-    plainly (record { step = steps.Tick 1 midnight up; packet = None; given = quiet 1; sent = Prepare 1 next_slot following_ballot ∷ [] })
+abbrev pub reopened : (ℕ → Given) → Given → Reach → List Entry
+reopened quiet telling reach =
+    plainly (record { step = steps.Tick 1 midnight reach; packet = None; given = quiet 1; sent = Prepare 1 next_slot following_ballot ∷ [] })
     ∷ plainly (taking quiet (steps.Deliver 1 1) (Prepare 1 next_slot following_ballot) (Promise 1 next_slot following_ballot (Some deleted_vote) ∷ []))
     ∷ plainly (taking quiet (steps.Deliver 2 1) (Promise 1 next_slot following_ballot (Some deleted_vote)) (Propose 1 next_slot again ∷ []))
     ∷ plainly (taking quiet (steps.Deliver 3 1) (Propose 1 next_slot again) (Voted 1 next_slot again ∷ []))

@@ -33,7 +33,7 @@ step_of node number (inputs.Packet packet) = steps.Deliver number node
 step_of node number (inputs.Request account request) = steps.Request node account request
 step_of node number (inputs.Grant id) = steps.Grant node id
 step_of node number (inputs.Answered slot outcome) = steps.Answered node slot outcome
-step_of node number (inputs.Tick moment up) = steps.Tick node moment up
+step_of node number (inputs.Tick moment reach) = steps.Tick node moment reach
 
 abbrev pub packet_in : Input → Option Packet
 packet_in (inputs.Packet packet) = Some (packet_of packet)

@@ -15,7 +15,8 @@ use Rattle.delivery.specs.declared.outcome.Outcome.TheVariants as outcomes
 use Rattle.desk.specs.declared.request.Request.{Request}
 use Rattle.pdu_tables.specs.declared.status.Status.TheVariants as statuses
 use Rattle.world_runs.specs.Step.TheVariants as steps
-use Rattle.world_runs.specs.Runs.{given_out, node_at}
+use Rattle.world_runs.specs.Runs.{given_out}
+use Rattle.world_runs.specs.Taking.{node_at}
 use Rattle.world_runs.specs.Tellings.{Names}
 use Rattle.journal_laws.specs.Journals.{Entry, RunsOn, packets_sent}
 

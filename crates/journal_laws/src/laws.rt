@@ -1,6 +1,5 @@
 //! Laws of journals: nothing to call, but to cite.
 
-ghost use Rattle.std.specs.Global.{Vec};
 ghost use Rattle.std.specs.Prelude.{ℕ, ◌≤◌, Bool, [], ◌++◌, List, Ok, map, reverse};
 ghost use Rattle.mc_model.specs.synod.Packet.{Packet};
 ghost use Rattle.mc_model.specs.cluster.Steps.{Cluster, setup_of};
@@ -13,6 +12,7 @@ ghost use Rattle.node_core.specs.Keeping.{kept_of};
 ghost use Rattle.node_core.specs.Listing.{ListsRecorded};
 ghost use Rattle.node_core.specs.Nodes.{HasTaken, Standing};
 ghost use Rattle.node_core.specs.Outputs.{Outputs};
+ghost use Rattle.node_core.specs.Reach.{Reach};
 ghost use Rattle.node_core.specs.Steps.{input_of};
 ghost use Rattle.node_laws.specs.Runs.{MayCome};
 ghost use Rattle.journal_laws.specs.Taken.{StartsAnew, StopsAndStartsAnew, done_by};
@@ -209,6 +209,6 @@ pub fn a_journal_is_worked()
 /// the receipt on DELETED.
 pub fn a_journal_over_an_old_store_is_worked()
     ensures cancelled { WasToldDeleted }
-    ensures journal { (quiet : ℕ → Given) → IsQuiet quiet → (telling : Given) → TellsIt telling → (up : Vec (List ℕ))
-        → (ends : ℕ → Kept) × IsJournalOver alone cancelled none_new none_lost (reopened quiet telling up) ends }
+    ensures journal { (quiet : ℕ → Given) → IsQuiet quiet → (telling : Given) → TellsIt telling → (reach : Reach)
+        → (ends : ℕ → Kept) × IsJournalOver alone cancelled none_new none_lost (reopened quiet telling reach) ends }
 {}

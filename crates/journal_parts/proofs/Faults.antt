@@ -10,8 +10,8 @@ use Rattle.node_core.specs.StepFault.{StepFault}
 use Rattle.node_core.specs.StepFault.TheVariants as faults
 use Rattle.node_core.specs.Steps.{IsFault, refused_by}
 use Rattle.synod_acceptor.specs.declared.packet.Packet.{Packet}
-use Rattle.world.specs.declared.step.Step.{Step}
-use Rattle.world.specs.declared.step.Step.TheVariants as steps
+use Rattle.node_entry.specs.declared.step.Step.{Step}
+use Rattle.node_entry.specs.declared.step.Step.TheVariants as steps
 use Rattle.journal_parts.specs.Faults.{IsCopied, fault_at}
 use Rattle.journal_parts.specs.Members.{ComesWith}
 use Rattle.journal_parts.specs.Refusals.{IsRefusedAs, refused_as}
@@ -25,11 +25,11 @@ fault_same node (steps.Deliver number at) None input comes = absurd (cc)
 fault_same node (steps.Deliver number at) (Some packet) input comes =
     let same : given.Packet packet ≡ input = cc in ap (fault_in node) (sym same)
 fault_same node (steps.Request at account request) packet input comes = ap (fault_in node) comes.1
-fault_same node (steps.Tick at moment up) packet (given.Tick second others) comes = refl
-fault_same node (steps.Tick at moment up) packet (given.Packet came) comes = absurd comes
-fault_same node (steps.Tick at moment up) packet (given.Request account request) comes = absurd comes
-fault_same node (steps.Tick at moment up) packet (given.Grant id) comes = absurd comes
-fault_same node (steps.Tick at moment up) packet (given.Answered slot outcome) comes = absurd comes
+fault_same node (steps.Tick at moment reach) packet (given.Tick second others) comes = refl
+fault_same node (steps.Tick at moment reach) packet (given.Packet came) comes = absurd comes
+fault_same node (steps.Tick at moment reach) packet (given.Request account request) comes = absurd comes
+fault_same node (steps.Tick at moment reach) packet (given.Grant id) comes = absurd comes
+fault_same node (steps.Tick at moment reach) packet (given.Answered slot outcome) comes = absurd comes
 fault_same node (steps.Grant at id) packet input comes = ap (fault_in node) comes.1
 fault_same node (steps.Answered at slot outcome) packet input comes = ap (fault_in node) comes.1
 fault_same node (steps.Crash at number found) packet input comes = absurd comes
@@ -49,7 +49,7 @@ refused_so node step packet input fault comes is =
 pub copied_freely : {S : Type 0} (node : Standing S) (step : Step) → IsCopied step → node.broken ≡ false → fault_at node step ≡ None
 copied_freely node (steps.Deliver number at) copied works = grind (arith, works)
 copied_freely node (steps.Request at account request) copied works = grind (arith, works)
-copied_freely node (steps.Tick at moment up) copied works = grind (arith, works)
+copied_freely node (steps.Tick at moment reach) copied works = grind (arith, works)
 copied_freely node (steps.Grant at id) copied works = absurd copied
 copied_freely node (steps.Answered at slot outcome) copied works = absurd copied
 copied_freely node (steps.Crash at number found) copied works = absurd copied

@@ -14,7 +14,7 @@ use Rattle.mc_model.specs.synod.Lists.{In}
 use Rattle.mc_model.specs.synod.Packet.{Packet}
 use Rattle.synod_acceptor.specs.Packets.{packet_of}
 use Rattle.synod_acceptor.specs.declared.packet.Packet.{Packet as Sent}
-use Rattle.world.specs.declared.step.Step.{Step}
+use Rattle.node_entry.specs.declared.step.Step.{Step}
 use Rattle.journal_laws.specs.Journals.{Entry, packets_sent}
 use Rattle.journal_parts.specs.declared.carried.Carried.{Carried}
 use Rattle.journal_parts.specs.declared.noted.Noted.{Noted}

@@ -8,7 +8,7 @@ use Rattle.mc_parts.proofs.Membership.{in_either, in_right}
 use Rattle.node_model.specs.Kept.{Kept}
 use Rattle.node_model.specs.Stepped.{stepped}
 use Rattle.stable_store.specs.Stored.{Stored}
-use Rattle.world.specs.Runs.{node_at}
+use Rattle.node_entry.specs.Taking.{node_at}
 use Rattle.node_core.specs.Input.{Input as Given}
 use Rattle.node_core.specs.Keeping.{kept_of}
 use Rattle.node_core.specs.Kept.{Kept as Holding}

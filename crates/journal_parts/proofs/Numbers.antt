@@ -17,9 +17,9 @@ use Rattle.mc_parts.proofs.Membership.{at_place, in_either}
 use Rattle.sim_net.proofs.Numbers.{split_at}
 use Rattle.synod_acceptor.specs.Packets.{packet_of}
 use Rattle.synod_acceptor.specs.declared.packet.Packet.{Packet as Sent}
-use Rattle.world.specs.Runs.{node_at}
-use Rattle.world.specs.declared.step.Step.{Step}
-use Rattle.world.specs.declared.step.Step.TheVariants as steps
+use Rattle.node_entry.specs.Taking.{node_at}
+use Rattle.node_entry.specs.declared.step.Step.{Step}
+use Rattle.node_entry.specs.declared.step.Step.TheVariants as steps
 use Rattle.journal_laws.specs.Journals.{CameAsSent, Done, Entry, HasItsNumber, IsInRange, Unfinished, WereSent, done_in, packets_sent, steps_for, stop_of}
 use Rattle.journal_laws.proofs.Joining.{done_both, sent_both}
 use Rattle.journal_parts.specs.declared.noted.Noted.{Noted}
@@ -161,7 +161,7 @@ came_as packets step None from = record {}
 came_as packets (steps.Deliver number node) (Some packet) from = from number packet refl refl
 came_as packets (steps.Crash node number found) (Some packet) from = from number packet refl refl
 came_as packets (steps.Request node account request) (Some packet) from = record {}
-came_as packets (steps.Tick node moment up) (Some packet) from = record {}
+came_as packets (steps.Tick node moment reach) (Some packet) from = record {}
 came_as packets (steps.Grant node id) (Some packet) from = record {}
 came_as packets (steps.Answered node slot outcome) (Some packet) from = record {}
 came_as packets (steps.Restart node) (Some packet) from = record {}

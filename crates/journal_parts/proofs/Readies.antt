@@ -8,10 +8,11 @@ use Rattle.node_model.specs.Kept.{Kept}
 use Rattle.node_model.specs.Stepped.{stepped}
 use Rattle.node_laws.specs.Runs.{MayCome}
 use Rattle.delivery.specs.Targets.{is_up}
+use Rattle.node_core.specs.Reaching.{may_of}
 use Rattle.synod_acceptor.specs.Packets.{packet_of}
 use Rattle.synod_acceptor.specs.declared.packet.Packet.{Packet}
-use Rattle.world.specs.declared.step.Step.{Step}
-use Rattle.world.specs.declared.step.Step.TheVariants as steps
+use Rattle.node_entry.specs.declared.step.Step.{Step}
+use Rattle.node_entry.specs.declared.step.Step.TheVariants as steps
 use Rattle.node_core.specs.Input.{Input as Given}
 use Rattle.node_core.specs.Input.TheVariants as given
 use Rattle.node_core.specs.Keeping.{kept_of}
@@ -33,11 +34,11 @@ comes_so setup k (steps.Deliver number node) (Some packet) input comes =
 comes_so setup k (steps.Request node account request) packet input comes = ap (input_of setup k) comes.1
 comes_so setup k (steps.Grant node id) packet input comes = ap (input_of setup k) comes.1
 comes_so setup k (steps.Answered node slot outcome) packet input comes = ap (input_of setup k) comes.1
-comes_so setup k (steps.Tick node moment up) packet (given.Tick then others) comes = λ i. Tick (comes.1 i) (is_up (comes.2 i))
-comes_so setup k (steps.Tick node moment up) packet (given.Packet came) comes = absurd comes
-comes_so setup k (steps.Tick node moment up) packet (given.Request account request) comes = absurd comes
-comes_so setup k (steps.Tick node moment up) packet (given.Grant id) comes = absurd comes
-comes_so setup k (steps.Tick node moment up) packet (given.Answered slot outcome) comes = absurd comes
+comes_so setup k (steps.Tick node moment reach) packet (given.Tick then others) comes = λ i. Tick (comes.1 i) (record { up = is_up (comes.2.0 i); may = may_of (comes.2.1 i) })
+comes_so setup k (steps.Tick node moment reach) packet (given.Packet came) comes = absurd comes
+comes_so setup k (steps.Tick node moment reach) packet (given.Request account request) comes = absurd comes
+comes_so setup k (steps.Tick node moment reach) packet (given.Grant id) comes = absurd comes
+comes_so setup k (steps.Tick node moment reach) packet (given.Answered slot outcome) comes = absurd comes
 comes_so setup k (steps.Crash node number found) packet input comes = absurd comes
 comes_so setup k (steps.Restart node) packet input comes = absurd comes
 

@@ -13,8 +13,9 @@ use Rattle.stable_store.specs.Stored.{Stored}
 use Rattle.synod_acceptor.specs.Packets.{packet_of}
 use Rattle.synod_acceptor.specs.declared.packet.Packet.{Packet}
 use Rattle.world.specs.declared.given.Given.{Given}
-use Rattle.world.specs.declared.step.Step.TheVariants as steps
-use Rattle.world.specs.Runs.{IsGiven, node_at}
+use Rattle.node_entry.specs.declared.step.Step.TheVariants as steps
+use Rattle.world.specs.Runs.{IsGiven}
+use Rattle.node_entry.specs.Taking.{node_at}
 use Rattle.node_core.specs.Keeping.{kept_of}
 use Rattle.node_core.specs.Stopped.{Stopped}
 use Rattle.node_core.specs.Stops.{IsTold}

@@ -4,10 +4,10 @@ use Rattle.std.specs.Arc.{arc_value}
 use Rattle.synod_acceptor.specs.Packets.{packet_of}
 use Rattle.node_model.specs.Outputs.{nothing}
 use Rattle.node_core.specs.Copies.{AreAlike}
-use Rattle.world.specs.Copies.{IsCopy}
+use Rattle.node_entry.specs.Copies.{IsCopy}
 use Rattle.world.specs.Runs.{IsGiven}
-use Rattle.world.specs.declared.step.Step.{Step}
-use Rattle.world.specs.declared.step.Step.TheVariants as steps
+use Rattle.node_entry.specs.declared.step.Step.{Step}
+use Rattle.node_entry.specs.declared.step.Step.TheVariants as steps
 use Rattle.journal_laws.specs.Journals.{Done, Entry, Unfinished}
 use Rattle.journal_laws.specs.Taken.{given_of}
 use Rattle.journal_parts.specs.declared.done.Done.{Done as Taken}

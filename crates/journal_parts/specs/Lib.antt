@@ -5,7 +5,8 @@ pub use Rattle.journal_laws.specs.Openings
 pub use Rattle.journal_laws.specs.Parts
 pub use Rattle.journal_laws.specs.Telling
 pub use Rattle.world.specs.Runs
-pub use Rattle.world.specs.declared.step.Step
+pub use Rattle.node_entry.specs.Taking
+pub use Rattle.node_entry.specs.declared.step.Step
 pub mod Refusals
 pub mod Faults
 pub mod Entries

@@ -11,15 +11,17 @@ use Rattle.stable_store.specs.Stored.{Stored}
 use Rattle.synod_acceptor.specs.Packets.{packet_of}
 use Rattle.synod_acceptor.specs.declared.packet.Packet.{Packet}
 use Rattle.world.specs.declared.given.Given.{Given as GivenOut}
-use Rattle.world.specs.declared.step.Step.{Step}
-use Rattle.world.specs.declared.step.Step.TheVariants as steps
-use Rattle.world.specs.Runs.{IsGiven, node_at}
+use Rattle.node_entry.specs.declared.step.Step.{Step}
+use Rattle.node_entry.specs.declared.step.Step.TheVariants as steps
+use Rattle.world.specs.Runs.{IsGiven}
+use Rattle.node_entry.specs.Taking.{node_at}
 use Rattle.node_core.specs.Input.{Input as Given}
 use Rattle.node_core.specs.Input.TheVariants as given
 use Rattle.node_core.specs.Keeping.{kept_of}
 use Rattle.node_core.specs.Kept.{Kept as Holding}
 use Rattle.node_core.specs.Steps.{input_of}
 use Rattle.node_core.specs.Nodes.{Standing}
+use Rattle.node_core.specs.Reaching.{IsSameReach}
 use Rattle.node_core.specs.Stopped.{Stopped}
 use Rattle.journal_laws.specs.Journals.{Entry, IsInRange, IsOwnRun, Unfinished, done_in, steps_for}
 use Rattle.journal_laws.specs.Taken.{IsTakenBy, started_anew}
@@ -122,8 +124,8 @@ pub record Strays {S : Type 0} (stored : S → Stored) (old new : Posted S) : Ty
 abbrev pub ComesWith : Step → Option Packet → Given → Type 0
 ComesWith (steps.Deliver number node) packet input = option_map given.Packet packet ≡ Some input
 ComesWith (steps.Request node account request) packet input = (packet ≡ None) × (input ≡ given.Request account request)
-ComesWith (steps.Tick node moment up) packet (given.Tick then others) = (packet ≡ None) × (then ≡ moment) × (others.items ≡ up.items)
-ComesWith (steps.Tick node moment up) packet input = ⊥
+ComesWith (steps.Tick node moment reach) packet (given.Tick then others) = (packet ≡ None) × (then ≡ moment) × IsSameReach reach others
+ComesWith (steps.Tick node moment reach) packet input = ⊥
 ComesWith (steps.Grant node id) packet input = (packet ≡ None) × (input ≡ given.Grant id)
 ComesWith (steps.Answered node slot outcome) packet input = (packet ≡ None) × (input ≡ given.Answered slot outcome)
 ComesWith (steps.Crash node number found) packet input = ⊥
@@ -133,7 +135,7 @@ ComesWith (steps.Restart node) packet input = ⊥
 abbrev pub IsAct : Step → Type 0
 IsAct (steps.Deliver number node) = Unit {0}
 IsAct (steps.Request node account request) = Unit {0}
-IsAct (steps.Tick node moment up) = Unit {0}
+IsAct (steps.Tick node moment reach) = Unit {0}
 IsAct (steps.Grant node id) = Unit {0}
 IsAct (steps.Answered node slot outcome) = Unit {0}
 IsAct (steps.Crash node number found) = ⊥
@@ -143,7 +145,7 @@ IsAct (steps.Restart node) = ⊥
 abbrev pub CanBeTaken : Step → Option Packet → Type 0
 CanBeTaken (steps.Deliver number node) packet = (came : Packet) × (packet ≡ Some came)
 CanBeTaken (steps.Request node account request) packet = packet ≡ None
-CanBeTaken (steps.Tick node moment up) packet = packet ≡ None
+CanBeTaken (steps.Tick node moment reach) packet = packet ≡ None
 CanBeTaken (steps.Grant node id) packet = packet ≡ None
 CanBeTaken (steps.Answered node slot outcome) packet = packet ≡ None
 CanBeTaken (steps.Crash node number found) packet = ⊥

@@ -9,8 +9,8 @@ use Rattle.mc_model.specs.synod.Packet.{Packet}
 use Rattle.mc_model.specs.cluster.Steps.{Cluster}
 use Rattle.synod_acceptor.specs.declared.packet.Packet.{Packet as Sent}
 use Rattle.synod_acceptor.specs.Packets.{packet_of}
-use Rattle.world.specs.Runs.{node_at}
-use Rattle.world.specs.declared.step.Step.{Step}
+use Rattle.node_entry.specs.Taking.{node_at}
+use Rattle.node_entry.specs.declared.step.Step.{Step}
 use Rattle.journal_laws.specs.Journals.{Entry, HasItsNumber, IsInRange, WereSent, done_in, packets_sent}
 use Rattle.journal_parts.specs.declared.noted.Noted.{Noted}
 use Rattle.journal_parts.specs.declared.carried.Carried.{Carried}

@@ -1,18 +1,18 @@
 //! A start anew that was prepared.
 
 ghost use Rattle.std.specs.Prelude.{◌≡◌, IfOk};
-ghost use Rattle.world.specs.declared.step.Step.TheVariants as steps;
+ghost use Rattle.node_entry.specs.declared.step.Step.TheVariants as steps;
 
 use crate::copies::EntryCopies;
 use crate::done::Done;
 use crate::entry::Entry;
 use mc_types::NodeNo;
 use node_core::Outputs;
+use node_entry::Step;
 use std::alloc::{AllocError, Global};
 use std::marker::Model;
 use std::sync::Arc;
 use synod_acceptor::Packet;
-use world::Step;
 
 /// A start anew that was prepared so far that it needs no memory but the node's, and its entry for all that will share it. Contracts see the step as it will
 /// stand in the journal, with the packet in the save of whose step the node stopped, if it did.

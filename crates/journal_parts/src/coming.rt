@@ -5,9 +5,9 @@ ghost use Rattle.journal_parts.specs.Faults.{IsCopied};
 ghost use Rattle.journal_parts.specs.Members.{CanBeTaken, ComesWith};
 
 use node_core::Input;
+use node_entry::Step;
 use std::alloc::AllocError;
 use synod_acceptor::Packet;
-use world::Step;
 
 /// What comes to a node by a step, with the packet that comes, if one does. An `Err` is want of memory, which a grant and what came of an attempt do not take.
 pub(crate) fn input_by(step: &Step, packet: &Option<Packet>) -> Result<Input, AllocError>
@@ -37,7 +37,7 @@ fn copied_by(step: &Step) -> Result<Input, AllocError>
             request,
             ..
         } => Ok(Input::Request(account, request)),
-        Step::Tick { moment, up, .. } => Ok(Input::Tick(moment, up)),
+        Step::Tick { moment, reach, .. } => Ok(Input::Tick(moment, reach)),
         _ => unreachable!(),
     }
 }

@@ -4,8 +4,8 @@ ghost use Rattle.std.specs.Prelude.{◌≡◌, ◌↔◌, IsTrue};
 ghost use Rattle.journal_parts.specs.Entries.{IsLike};
 
 use node_core::Outputs;
+use node_entry::Step;
 use synod_acceptor::Packet;
-use world::Step;
 
 /// A step that a node took: what came to it, the packet that came by it, if one did, and what it gave out. The step of a start anew has the packet in the save
 /// of whose step the node stopped, if it did.

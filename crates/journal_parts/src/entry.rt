@@ -2,16 +2,16 @@
 
 ghost use Rattle.std.specs.Prelude.{◌≡◌, IfOk, IsTrue, None};
 ghost use Rattle.std.specs.Arc.{arc_value};
-ghost use Rattle.world.specs.Runs.{node_at};
+ghost use Rattle.node_entry.specs.Taking.{node_at};
 ghost use Rattle.journal_laws.specs.Likeness.{AreAlike};
 ghost use Rattle.journal_parts.specs.Entries.{done_of, entry_of, number_in};
 
 use crate::done::Done;
 use mc_types::NodeNo;
 use node_core::Found;
+use node_entry::Step;
 use std::alloc::AllocError;
 use std::sync::Arc;
-use world::Step;
 
 /// A save that a node had not finished as it was opened again: the number of the packet in whose step it stopped, and whether the save was made.
 #[derive(Clone, Copy, Debug, PartialEq, Eq)]

@@ -6,8 +6,8 @@ ghost use Rattle.node_core.specs.Nodes.{IsLifeOf, fault_in};
 ghost use Rattle.node_model.specs.Kept.{message_at};
 ghost use Rattle.node_core.specs.Input.TheVariants as inputs;
 ghost use Rattle.node_core.specs.Permits.{IsAnswered, IsGrant, is_life_of};
-ghost use Rattle.world.specs.declared.step.Step.TheVariants as steps;
-ghost use Rattle.world.specs.Runs.{node_at};
+ghost use Rattle.node_entry.specs.declared.step.Step.TheVariants as steps;
+ghost use Rattle.node_entry.specs.Taking.{node_at};
 ghost use Rattle.node_core.specs.Setups.{IsSetup};
 ghost use Rattle.journal_parts.specs.Entries.{IsAnew, done_of, entry_of, number_by};
 ghost use Rattle.journal_parts.specs.Members.{CanBeTaken, ComesWith, IsBeginning, IsMember, packet_halted, posted};
@@ -27,11 +27,11 @@ use crate::refusal::Refusal;
 use fate_chain::Chain;
 use mc_types::{MsgId, NodeNo};
 use node_core::{Life, Node, Permit};
+use node_entry::Step;
 use stable_store::StableStore;
 use std::alloc::{AllocError, Global};
 use std::marker::{Model, PhantomData};
 use synod_acceptor::Packet;
-use world::Step;
 
 /// A node and its own entries, which are its run from what it keeps where the journal begins. Contracts see the node, the packet in the save of whose step it
 /// stopped, its entries, and for how many more it has room.

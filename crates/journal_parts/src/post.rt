@@ -24,11 +24,12 @@ use crate::entry::{Entry, Unfinished};
 use crate::ready::Ready;
 use crate::refusal::Refusal;
 use node_core::{Life, Node, Pending, Permit, StepFault, Stopped};
+use node_entry::Step;
+use node_runs::{is_well_made, may_come};
 use stable_store::StableStore;
 use std::alloc::AllocError;
 use std::sync::Arc;
 use synod_acceptor::Packet;
-use world::{Step, is_well_made, may_come};
 
 /// The step in the save of which a node stopped, and the number of the packet that came by it.
 #[derive(Drop)]

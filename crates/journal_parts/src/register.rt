@@ -26,12 +26,12 @@ use crate::noted::Noted;
 use crate::refusal::Refusal;
 use crate::seat::Seat;
 use crate::slip::Slip;
+use node_entry::Step;
 use stable_store::StableStore;
 use std::alloc::{AllocError, Global};
 use std::marker::Model;
 use std::sync::ledger::{Blank, Book, Share};
 use synod_acceptor::Packet;
-use world::Step;
 
 /// How many entries a journal has at most.
 pub const MOST_ENTRIES: usize = 200_000;

@@ -8,9 +8,9 @@ ghost use Rattle.journal_parts.specs.Entries.{entry_of, save_of};
 
 use crate::entry::{Entry, Unfinished};
 use node_core::Outputs;
+use node_entry::Step;
 use std::marker::Model;
 use synod_acceptor::Packet;
-use world::Step;
 
 /// What the taker of a step has of it: the number of its entry in the journal, from 1, the entry, and how many packets had numbers before it. Contracts see
 /// these three.

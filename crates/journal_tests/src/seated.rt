@@ -6,7 +6,7 @@ use delivery::Outcome;
 use lines_of_tests::account;
 use mc_types::MsgId;
 use node_core::Permit;
-use node_threads::{Action, Begins, Cluster, Refusal, Seat};
+use node_threads::{Action, Begins, Cluster, Reach, Refusal, Seat};
 use std::alloc::Global;
 use std::process::Abort;
 use std::sync::Wait;
@@ -85,7 +85,7 @@ impl<L: Begins> Seated<L> {
         let action = Action::Tick {
             node: self.hands.node(rt, place),
             moment: self.hands.moment(),
-            up: self.hands.up(rt, alloc),
+            reach: Reach::of_all(self.hands.up(rt, alloc)),
         };
         self.act(rt, cluster, place, action);
     }

@@ -4,7 +4,7 @@ use crate::asked::{account, request, text};
 use crate::packets::packet;
 use delivery::{Outcome, outcome_of};
 use mc_types::{Moment, MsgId, NodeNo, Slot};
-use node_core::Input;
+use node_core::{Input, MayBegin, MessageIds, Reach};
 use pdu_codec::decode;
 use std::alloc::Global;
 
@@ -50,8 +50,8 @@ pub(crate) fn slot(place: u8) -> Option<Slot> {
 }
 
 /// What comes to a node: a request; `grant`, if the attempt is asked for; `delivered`, `failed` or `rejected`, if that came of an attempt,
-/// with its number unless it is the first; `tick`, with the moment and the accounts of which a session may receive; or a packet and its
-/// numbers.
+/// with its number unless it is the first; `tick`, with the moment and the accounts of which a session may receive, and with `only` and the ids of the
+/// messages of which an attempt may begin, if not of all; or a packet and its numbers.
 pub fn input(alloc: Global, comes: &str) -> Option<Input> {
     let (kind, rest) = comes.split_once(' ').unwrap_or((comes, ""));
     input_of(alloc, kind, rest)
@@ -99,13 +99,27 @@ fn outcome_in(alloc: Global, octets: &[u8]) -> Option<Outcome> {
     }
 }
 
-/// The moment, and the accounts behind it.
+/// The moment, and what stands behind it.
 fn tick(alloc: Global, words: &str) -> Option<Input> {
-    let (seconds, accounts) = words.split_once(' ').unwrap_or((words, ""));
+    let (seconds, rest) = words.split_once(' ').unwrap_or((words, ""));
     let moment = Moment::make(seconds.parse().ok()?).ok()?;
+    let (accounts, may) = match rest.split_once("only") {
+        Some((accounts, ids)) => (accounts, MayBegin::These(message_ids(alloc, ids)?)),
+        None => (rest, MayBegin::All),
+    };
     let mut up = Vec::new(alloc);
     for account in accounts.split_whitespace() {
         up.push(text(alloc, account)?).ok()?;
     }
-    Some(Input::Tick(moment, up))
+    Some(Input::Tick(moment, Reach { up, may }))
+}
+
+/// The messages of these ids.
+fn message_ids(alloc: Global, words: &str) -> Option<MessageIds> {
+    let mut ids = MessageIds::none(alloc);
+    for word in words.split_whitespace() {
+        let id = MsgId::read(word.as_bytes()).ok()?;
+        ids.put(id).ok()?;
+    }
+    Some(ids)
 }

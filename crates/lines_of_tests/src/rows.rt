@@ -24,6 +24,13 @@ back => Reported 1000100001 4 946684800
 cancel => Waits 3
 back => Removed 3
 
+a message of which no attempt may begin is deleted
+submit_with_receipt => Waits 1
+back => Accepted 1 1000100001
+tick 946684860 sme1 only => Nothing
+cancel => Waits 2
+back => Reported 1000100001 4 946684860
+
 a submit without a route is refused
 submit_nowhere => Turned 11
 back => Nothing
@@ -113,6 +120,26 @@ tick 946943999 => Started 1000100001 0 524306
 
 a node that heard of nothing starts nothing
 tick 946944000 sme1 => Nothing
+
+no attempt begins of a message that is not named
+voted 1 => Nothing
+voted 3 => Nothing
+tick 946943997 sme1 only => Nothing
+tick 946943997 sme1 only 1000100002 => Nothing
+tick 946943998 sme1 only 1000100002 1000100001 => Started 1000100001 1 262162
+
+a message that was held back begins once all may
+voted 1 => Nothing
+voted 3 => Nothing
+tick 946943997 sme1 only => Nothing
+tick 946943998 sme1 only => Nothing
+tick 946943998 sme1 => Started 1000100001 1 262162
+
+a message that is held back expires
+voted 1 => Nothing
+voted 3 => Nothing
+tick 946943999 sme1 only 1000100002 => Nothing
+tick 946944000 sme1 only => Started 1000100001 1 262162
 
 a tick at the same moment looks at other accounts
 voted 1 => Nothing

@@ -10,14 +10,19 @@ use Rattle.mc_model.specs.synod.Acceptor.{Records, blank}
 use Rattle.mc_model.specs.synod.Ballot.{ballot_of}
 use Rattle.mc_model.specs.synod.OneSlot.{vote_at}
 use Rattle.mc_model.specs.synod.Packet.{Slot, slot_of, Voted}
+use Rattle.mc_model.specs.node.Reach.{Reach, of_all}
 use Rattle.mc_laws.specs.Stories.{attempted_chain, first_ballot, first_id}
 
 -- every account has a session that may receive, or none has
-abbrev pub all_up : List ℕ → Bool
-all_up account = true
+abbrev pub all_up : Reach
+all_up = of_all (λ account. true)
 
-abbrev pub none_up : List ℕ → Bool
-none_up account = false
+abbrev pub none_up : Reach
+none_up = of_all (λ account. false)
+
+-- every account has one, and an attempt may begin of no message
+abbrev pub none_begin : Reach
+none_begin = record { up = λ account. true; may = λ id. false }
 
 abbrev pub no_records : Records
 no_records = λ slot. blank

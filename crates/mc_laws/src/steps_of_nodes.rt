@@ -30,7 +30,7 @@ ghost use Rattle.mc_laws.specs.Stories.{
   taken_chain,
   told_chain,
 };
-ghost use Rattle.mc_laws.specs.NodeStories.{all_up, among_three, first_attempt, knowing, node_of_actor, none_up, used_up};
+ghost use Rattle.mc_laws.specs.NodeStories.{all_up, among_three, first_attempt, knowing, node_of_actor, none_begin, none_up, used_up};
 ghost use Rattle.mc_laws.specs.TickStories.{
   again_ballot,
   cancelled_once,
@@ -59,7 +59,7 @@ ghost use Rattle.mc_laws.specs.QueryStories.{
 };
 
 /// A tick comes, and by the first rule that fits a round is started. By what the chain ends in that a node knows: for the next
-/// attempt, for EXPIRED, for UNDELIVERABLE after eight failures with the error of the last, for the outcome of an attempt, for the
+/// attempt, if one may begin, for EXPIRED, for UNDELIVERABLE after eight failures with the error of the last, for the outcome of an attempt, for the
 /// failure of an attempt that an older incarnation made, and for that of one which finds no session, which is given up then; and
 /// for the Told behind a fate of which a receipt is asked. Or for a submit_sm that waits, for a vote beyond what is known, and for
 /// a cancel_sm that waits.
@@ -67,6 +67,9 @@ pub fn a_tick_starts_a_round()
     ensures attempt { (message : Submission) → MayBeTried message →
         IsStepAlone first_setup (node_of_actor (knowing 1 opening_clock (taken_chain message) [] []))
         (Tick opening_clock all_up) (starting 1 opening_clock (attempted_chain message)) }
+    ensures held_back { (message : Submission) → MayBeTried message →
+        IsStepAlone first_setup (node_of_actor (knowing 1 opening_clock (taken_chain message) [] []))
+        (Tick opening_clock none_begin) (Ticks opening_clock ∷ []) }
     ensures expire { (message : Submission) → message.expiry ≤ one_minute_later →
         IsStepAlone first_setup (node_of_actor (knowing 1 opening_clock (taken_chain message) [] []))
         (Tick one_minute_later all_up) (starting 1 one_minute_later (expired_chain message)) }

@@ -6,6 +6,7 @@ pub mod Room
 pub mod Knowledge
 pub mod Settling
 pub mod Proposal
+pub mod Reach
 pub mod Replies
 pub mod Grant
 pub mod Act

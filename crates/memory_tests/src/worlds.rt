@@ -73,7 +73,11 @@ fn step_with(node: NodeNo, input: Input) -> Option<Step> {
             account,
             request,
         }),
-        Input::Tick(moment, up) => Some(Step::Tick { node, moment, up }),
+        Input::Tick(moment, reach) => Some(Step::Tick {
+            node,
+            moment,
+            reach,
+        }),
         Input::Grant(id) => Some(Step::Grant { node, id }),
         Input::Answered(slot, outcome) => Some(Step::Answered {
             node,

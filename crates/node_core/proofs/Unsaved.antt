@@ -4,6 +4,7 @@ use Rattle.std.specs.Prelude.{IsSome, Result, Ok, Err, max, if◌then◌else◌}
 use Rattle.mc_model.specs.synod.Packet.{Slot}
 use Rattle.mc_model.specs.node.Actor.{Request, id_in}
 use Rattle.mc_model.specs.node.FirstRule.{Announce, Close, Delete, Expire, Follow, GiveUp, Lose, Rule, Take, Try, Undeliver}
+use Rattle.mc_model.specs.node.Reach.{Reach}
 use Rattle.mc_model.specs.node.Setup.{Setup}
 use Rattle.node_model.specs.Attempts.{closed_by, concluded}
 use Rattle.node_model.specs.Kept.{Kept, message_at}
@@ -18,7 +19,7 @@ use Rattle.pdu_tables.specs.declared.status.Status.{Status}
 use Rattle.delivery.specs.Kept.{outcome_kept}
 use Rattle.node_kept.specs.Admissions.{admitted}
 use Rattle.node_kept.specs.Arrivals.{door_at, judged_as, next_id}
-use Rattle.delivery.specs.Targets.{is_up}
+use Rattle.node_parts.specs.Reaching.{reach_of}
 use Rattle.synod_acceptor.proofs.Slots.{is_same}
 use Rattle.synod_acceptor.specs.Votes.{record_of, slot_recorded}
 use Rattle.synod_acceptor.specs.declared.packet.Packet.{Packet as Sent}
@@ -52,10 +53,10 @@ ruled_leaves setup k id (Some fit) =
     started_leaves setup (given_up fit.rule k id (pred fit.start.place)) id (Some fit.start)
     ∙ given_up_leaves fit.rule k id (pred fit.start.place)
 
-each_leaves : (setup : Setup) (up : List ℕ → Bool) (ids : List ℕ) (k : Kept) → (ruled_each setup up ids k).kept.records ≡ k.records
-each_leaves setup up [] k = refl
-each_leaves setup up (id ∷ others) k =
-    let fitting = first_rule setup k up id in each_leaves setup up others (ruled setup k id fitting).kept ∙ ruled_leaves setup k id fitting
+each_leaves : (setup : Setup) (reach : Reach) (ids : List ℕ) (k : Kept) → (ruled_each setup reach ids k).kept.records ≡ k.records
+each_leaves setup reach [] k = refl
+each_leaves setup reach (id ∷ others) k =
+    let fitting = first_rule setup k reach id in each_leaves setup reach others (ruled setup k id fitting).kept ∙ ruled_leaves setup k id fitting
 
 request_leaves : (setup : Setup) (k : Kept) (judged : Result Request Status) → (stepped_up setup k (judged_as judged)).kept.records ≡ k.records
 request_leaves setup k (Ok request) =
@@ -95,9 +96,9 @@ saves_for k (given.Answered slot outcome) step unfinished change is some =
     let kept = closed_by (kept_of k) slot (outcome_kept outcome) in
     let start = concluded k.setup (kept_of k) slot (outcome_kept outcome) (message_at (kept_of k) slot.id).known in
     absurd (altered k _ step change is.is.is some (λ other. ap (λ records. records other) (started_leaves k.setup kept slot.id start)))
-saves_for k (given.Tick moment up) step unfinished change is some =
+saves_for k (given.Tick moment reach) step unfinished change is some =
     let kept = ticked (kept_of k) (max k.clock moment) in
-    absurd (altered k _ step change is.is.is some (λ slot. ap (λ records. records slot) (each_leaves k.setup (is_up up.items) (ids_of kept) kept)))
+    absurd (altered k _ step change is.is.is some (λ slot. ap (λ records. records slot) (each_leaves k.setup (reach_of reach) (ids_of kept) kept)))
 
 -- a step that is to be saved is that of a packet
 pub saved_for : (k : Holding) (input came : Input) (step : Step) (packet : Option Sent) → came ≡ input → IsPrepared k came step packet →

@@ -11,6 +11,9 @@ pub use Rattle.node_kept.specs.declared.stopped.Found
 pub use Rattle.node_kept.specs.declared.stopped.Stopped
 pub use Rattle.node_kept.specs.Copies
 pub use Rattle.node_kept.specs.Granting
+pub use Rattle.node_kept.specs.Reaching
+pub use Rattle.node_kept.specs.MayBegin
+pub use Rattle.node_kept.specs.Reach
 pub use Rattle.node_kept.specs.contracts.kept.Kept as ContractsKept
 pub mod Pendings
 pub mod Stops

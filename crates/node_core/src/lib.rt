@@ -17,7 +17,10 @@ pub use laws::{
 pub use life::Life;
 pub use loaded::Loaded;
 pub use node::Node;
-pub use node_kept::{Found, GrantRefusal, Input, Outputs, Setup, StepFault, Stopped, sender};
+pub use node_kept::{
+    Found, GrantRefusal, Input, MayBegin, MessageIds, Outputs, Reach, Setup, StepFault, Stopped,
+    sender,
+};
 pub use open::open_node;
 pub use pending::Pending;
 pub use permit::Permit;

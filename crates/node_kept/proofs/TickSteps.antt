@@ -4,6 +4,7 @@ use Rattle.std.proofs.Math.Path.{fun_ext}
 use Rattle.std.specs.Prelude.{◌++◌, filter, option_map}
 use Rattle.mc_model.specs.synod.Packet.{Packet, Slot}
 use Rattle.mc_model.specs.node.Outputs.{Outputs}
+use Rattle.mc_model.specs.node.Reach.{Reach}
 use Rattle.node_model.specs.Kept.{Held}
 use Rattle.node_model.specs.Outputs.{nothing}
 use Rattle.node_model.specs.Proposer.{Prepared}
@@ -51,8 +52,8 @@ pub record IsTickStep (k : Holding) (clock : ℕ) (turns : TurnList) (step : Ste
   pub granted : step.outputs.granted ≡ None
   pub change : step.change ≡ None
 
-module _ (k : Holding) (moment : ℕ) (up : List ℕ → Bool) (turns : TurnList) (step : Step) (is : IsTickStep k (max k.clock moment) turns step)
-    (turned : IsTurned k (max k.clock moment) up (ids_of (ticked (kept_of k) (max k.clock moment))) turns) where
+module _ (k : Holding) (moment : ℕ) (reach : Reach) (turns : TurnList) (step : Step) (is : IsTickStep k (max k.clock moment) turns step)
+    (turned : IsTurned k (max k.clock moment) reach (ids_of (ticked (kept_of k) (max k.clock moment))) turns) where
   abbrev Clock : ℕ
   Clock = max k.clock moment
 
@@ -91,7 +92,7 @@ module _ (k : Holding) (moment : ℕ) (up : List ℕ → Bool) (turns : TurnList
     granted = option_map granted_of (is.granted i);
   }
 
-  pub ticked_step : IsStep k (on_tick k.setup (kept_of k) moment up) step
+  pub ticked_step : IsStep k (on_tick k.setup (kept_of k) moment reach) step
   ticked_step = record {
     kept = all_kept ∙ sym (ap (λ (p : Prepared). p.kept) turned.made);
     outputs = outputs_then ∙ sym (ap (λ (p : Prepared). given p.packets) turned.made);
@@ -110,9 +111,9 @@ module _ (k : Holding) (moment : ℕ) (up : List ℕ → Bool) (turns : TurnList
   }
 
 -- at the clock of the code
-pub ticked_at : (k : Holding) (moment clock : ℕ) (up : List ℕ → Bool) (turns : TurnList) (step : Step) → clock ≡ max k.clock moment →
+pub ticked_at : (k : Holding) (moment clock : ℕ) (reach : Reach) (turns : TurnList) (step : Step) → clock ≡ max k.clock moment →
     IsTickStep k clock turns step →
-    IsTurned k clock up (ids_of (ticked (kept_of k) clock)) turns → IsStep k (on_tick k.setup (kept_of k) moment up) step
-ticked_at k moment clock up turns step at is turned =
-    ticked_step k moment up turns step (subst (λ (c : ℕ). IsTickStep k c turns step) at is)
-    (subst (λ (c : ℕ). IsTurned k c up (ids_of (ticked (kept_of k) c)) turns) at turned)
+    IsTurned k clock reach (ids_of (ticked (kept_of k) clock)) turns → IsStep k (on_tick k.setup (kept_of k) moment reach) step
+ticked_at k moment clock reach turns step at is turned =
+    ticked_step k moment reach turns step (subst (λ (c : ℕ). IsTickStep k c turns step) at is)
+    (subst (λ (c : ℕ). IsTurned k c reach (ids_of (ticked (kept_of k) c)) turns) at turned)

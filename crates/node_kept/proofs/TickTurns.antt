@@ -8,6 +8,7 @@ use Rattle.std.specs.Map.{keys_of}
 use Rattle.std.specs.Option.{unwrap_or}
 use Rattle.mc_model.specs.synod.Lists.{In}
 use Rattle.mc_model.specs.synod.Packet.{Packet, Slot, slot_at}
+use Rattle.mc_model.specs.node.Reach.{Reach}
 use Rattle.mc_model.specs.node.Setup.{Setup}
 use Rattle.node_model.specs.Kept.{Kept, message_at, with_message}
 use Rattle.node_model.specs.Message.{Message, unseen}
@@ -44,26 +45,26 @@ use Rattle.node_kept.proofs.Queueing.{asked_kept}
 
 -- ---- several messages of the model
 
-each_more : (setup : Setup) (up : List ℕ → Bool) (front back : List ℕ) (k : Kept) →
-    ruled_each setup up (front ++ back) k ≡ and_then (ruled_each setup up front k) (ruled_each setup up back (ruled_each setup up front k).kept)
-each_more setup up [] back k = refl
-each_more setup up (id ∷ front) back k =
-    let first : Prepared = ruled setup k id (first_rule setup k up id) in
-    let middle : Prepared = ruled_each setup up front first.kept in
-    let last : Prepared = ruled_each setup up back middle.kept in
-    ap (and_then first) (each_more setup up front back first.kept)
+each_more : (setup : Setup) (reach : Reach) (front back : List ℕ) (k : Kept) →
+    ruled_each setup reach (front ++ back) k ≡ and_then (ruled_each setup reach front k) (ruled_each setup reach back (ruled_each setup reach front k).kept)
+each_more setup reach [] back k = refl
+each_more setup reach (id ∷ front) back k =
+    let first : Prepared = ruled setup k id (first_rule setup k reach id) in
+    let middle : Prepared = ruled_each setup reach front first.kept in
+    let last : Prepared = ruled_each setup reach back middle.kept in
+    ap (and_then first) (each_more setup reach front back first.kept)
     ∙ (λ i. record { kept = last.kept; packets = sym (append_assoc first.packets middle.packets last.packets) i })
 
 -- one more
-one_more : (setup : Setup) (up : List ℕ → Bool) (front : List ℕ) (id : ℕ) (k : Kept) (so : Prepared) → ruled_each setup up front k ≡ so →
-    ruled_each setup up (front ++ id ∷ []) k ≡ and_then so (ruled setup so.kept id (first_rule setup so.kept up id))
-one_more setup up front id k so is =
-    each_more setup up front (id ∷ []) k
-    ∙ ap (λ (p : Prepared). and_then p (ruled_each setup up (id ∷ []) p.kept)) is
+one_more : (setup : Setup) (reach : Reach) (front : List ℕ) (id : ℕ) (k : Kept) (so : Prepared) → ruled_each setup reach front k ≡ so →
+    ruled_each setup reach (front ++ id ∷ []) k ≡ and_then so (ruled setup so.kept id (first_rule setup so.kept reach id))
+one_more setup reach front id k so is =
+    each_more setup reach front (id ∷ []) k
+    ∙ ap (λ (p : Prepared). and_then p (ruled_each setup reach (id ∷ []) p.kept)) is
     ∙ (λ i. record { kept = last.kept; packets = so.packets ++ append-nil last.packets i })
   where
     last : Prepared
-    last = ruled setup so.kept id (first_rule setup so.kept up id)
+    last = ruled setup so.kept id (first_rule setup so.kept reach id)
 
 -- ---- messages without their rounds
 
@@ -126,9 +127,9 @@ in_last (first ∷ others) id = inr (in_last others id)
 
 -- ---- at the start
 
-pub none_turned : (k : Holding) (clock : ℕ) (up : List ℕ → Bool) (turns : TurnList) → AreOwn k → turns.messages.items ≡ [] → turns.packets.items ≡ [] →
-    IsTurned k clock up [] turns
-none_turned k clock up turns own messages packets =
+pub none_turned : (k : Holding) (clock : ℕ) (reach : Reach) (turns : TurnList) → AreOwn k → turns.messages.items ≡ [] → turns.packets.items ≡ [] →
+    IsTurned k clock reach [] turns
+none_turned k clock reach turns own messages packets =
     let entries : entries_turned k turns ≡ map rested_entry k.messages.entries = ap (entries_after (map rested_entry k.messages.entries)) messages in
     record {
       made = λ i. record {
@@ -175,7 +176,7 @@ rests_first k id m s own node incarnation taken = record {
 
 -- ---- one more message
 
-module _ (k : Holding) (clock : ℕ) (up : List ℕ → Bool) (ids : List ℕ) (turns : TurnList) (is : IsTurned k clock up ids turns)
+module _ (k : Holding) (clock : ℕ) (reach : Reach) (ids : List ℕ) (turns : TurnList) (is : IsTurned k clock reach ids turns)
     (id : ℕ) (m : Filed) (taken : IsTaken k id m) (new : In id ids → ⊥) where
   abbrev Before : List (ℕ × Filed)
   Before = entries_turned k turns
@@ -204,15 +205,15 @@ module _ (k : Holding) (clock : ℕ) (up : List ℕ → Bool) (ids : List ℕ) (
   }
 
   abbrev Rule : Prepared
-  Rule = ruled k.setup (kept_turned k clock turns) id (first_rule k.setup (kept_turned k clock turns) up id)
+  Rule = ruled k.setup (kept_turned k clock turns) id (first_rule k.setup (kept_turned k clock turns) reach id)
 
   abbrev so_far : Prepared
   so_far = record { kept = kept_turned k clock turns; packets = map packet_of turns.packets.items }
 
-  pub turned_same : turned (kept_turned k clock turns) id None ≡ Rule → IsTurned k clock up (ids ++ id ∷ []) turns
+  pub turned_same : turned (kept_turned k clock turns) id None ≡ Rule → IsTurned k clock reach (ids ++ id ∷ []) turns
   turned_same rule = record {
     made =
-        one_more k.setup up ids id (ticked (kept_of k) clock) so_far is.made
+        one_more k.setup reach ids id (ticked (kept_of k) clock) so_far is.made
         ∙ ap (and_then so_far) (sym rule)
         ∙ (λ i. record { kept = kept_turned k clock turns; packets = append-nil (map packet_of turns.packets.items) i });
     saved = is.saved;
@@ -246,10 +247,10 @@ module _ (k : Holding) (clock : ℕ) (up : List ℕ → Bool) (ids : List ℕ) (
     records_then : (place : ℕ) → record_at turn.message.acceptor (slot_at id place) ≡ records_of Before (slot_at id place)
     records_then place = ap (λ a. record_at a (slot_at id place)) of.acceptor ∙ taken.records place ∙ sym (is.saved (slot_at id place))
 
-    pub turned_more : AreOwn k → turned (kept_turned k clock turns) id (Some turn) ≡ Rule → IsTurned k clock up (ids ++ id ∷ []) after
+    pub turned_more : AreOwn k → turned (kept_turned k clock turns) id (Some turn) ≡ Rule → IsTurned k clock reach (ids ++ id ∷ []) after
     turned_more own rule = record {
       made =
-          one_more k.setup up ids id (ticked (kept_of k) clock) so_far is.made
+          one_more k.setup reach ids id (ticked (kept_of k) clock) so_far is.made
           ∙ ap (and_then so_far) (sym rule)
           ∙ (λ i. record { kept = kept_then i; packets = packets_then i });
       saved = λ slot.
@@ -267,31 +268,31 @@ module _ (k : Holding) (clock : ℕ) (up : List ℕ → Bool) (ids : List ℕ) (
 
 -- ---- one after another
 
-pub turn_found : {E : Type 0} (k : Holding) (id : ℕ) (s : Standpoint) (up : List ℕ → Bool) (m : Filed) (result : Result (Option Turn) E) → IsTaken k id m →
+pub turn_found : {E : Type 0} (k : Holding) (id : ℕ) (s : Standpoint) (reach : Reach) (m : Filed) (result : Result (Option Turn) E) → IsTaken k id m →
     IfOk result (IsOfTurn id m) →
     IfOk result (λ turn. (setup : Setup) (kept : Kept) → IsAtRest setup kept (timely s.clock (held_in k.queue)) id m s →
-    IsOf setup.node kept.incarnation setup.nodes id m → turned kept id turn ≡ ruled setup kept id (first_rule setup kept up id)) →
-    IfOk result (IsTurnOf k id s up)
-turn_found k id s up m (Ok turn) taken same is = record { from = m; taken = taken; same = same; turned_is = is }
-turn_found k id s up m (Err e) taken same is = tt
+    IsOf setup.node kept.incarnation setup.nodes id m → turned kept id turn ≡ ruled setup kept id (first_rule setup kept reach id)) →
+    IfOk result (IsTurnOf k id s reach)
+turn_found k id s reach m (Ok turn) taken same is = record { from = m; taken = taken; same = same; turned_is = is }
+turn_found k id s reach m (Err e) taken same is = tt
 
 -- while the lowest id that is left is taken first
-pub record IsTurning (k : Holding) (clock : ℕ) (up : List ℕ → Bool) (left : List ℕ) (turns : TurnList) : Type 0 where
+pub record IsTurning (k : Holding) (clock : ℕ) (reach : Reach) (left : List ℕ) (turns : TurnList) : Type 0 where
   pub done : List ℕ
   pub split : done ++ left ≡ ids_of (ticked (kept_of k) clock)
   pub below : (one later : ℕ) → In one done → In later left → one < later
-  pub is : IsTurned k clock up done turns
+  pub is : IsTurned k clock reach done turns
 
-pub turning_begins : (k : Holding) (clock : ℕ) (up : List ℕ → Bool) (left : List ℕ) (turns : TurnList) → left ≡ ids_of (ticked (kept_of k) clock) →
-    IsTurned k clock up [] turns → IsTurning k clock up left turns
-turning_begins k clock up left turns all is = record {
+pub turning_begins : (k : Holding) (clock : ℕ) (reach : Reach) (left : List ℕ) (turns : TurnList) → left ≡ ids_of (ticked (kept_of k) clock) →
+    IsTurned k clock reach [] turns → IsTurning k clock reach left turns
+turning_begins k clock reach left turns all is = record {
   done = [];
   split = all;
   below = λ one later none among. absurd none;
   is = is;
 }
 
-module _ (k : Holding) (clock : ℕ) (up : List ℕ → Bool) (left : List ℕ) (turns : TurnList) (is : IsTurning k clock up left turns)
+module _ (k : Holding) (clock : ℕ) (reach : Reach) (left : List ℕ) (turns : TurnList) (is : IsTurning k clock reach left turns)
     (id : ℕ) (rest : List ℕ) (split : left ≡ id ∷ rest) where
   there : In id left
   there = subst (In id) (sym split) (inl refl)
@@ -308,8 +309,8 @@ module _ (k : Holding) (clock : ℕ) (up : List ℕ → Bool) (left : List ℕ) 
   done_or (first ∷ others) one (inl same) = inl (inl same)
   done_or (first ∷ others) one (inr among) = elim (done_or others one among) [ inl before ↦ inl (inr before) | inr same ↦ inr same ]
 
-  pub turning_goes_on : (after : TurnList) → ((other : ℕ) → In other rest → id < other) → IsTurned k clock up (is.done ++ id ∷ []) after →
-      IsTurning k clock up rest after
+  pub turning_goes_on : (after : TurnList) → ((other : ℕ) → In other rest → id < other) → IsTurned k clock reach (is.done ++ id ∷ []) after →
+      IsTurning k clock reach rest after
   turning_goes_on after above turned_so = record {
     done = is.done ++ id ∷ [];
     split = append_assoc is.done (id ∷ []) rest ∙ sym (ap (λ (ids : List ℕ). is.done ++ ids) split) ∙ is.split;
@@ -324,21 +325,21 @@ module _ (k : Holding) (clock : ℕ) (up : List ℕ → Bool) (left : List ℕ) 
     abbrev at : Standpoint
     at = record { author = author; clock = clock }
 
-    rule_is : (turn : Option Turn) (of : IsTurnOf k id at up turn) →
-        turned (kept_turned k clock turns) id turn ≡ ruled k.setup (kept_turned k clock turns) id (first_rule k.setup (kept_turned k clock turns) up id)
+    rule_is : (turn : Option Turn) (of : IsTurnOf k id at reach turn) →
+        turned (kept_turned k clock turns) id turn ≡ ruled k.setup (kept_turned k clock turns) id (first_rule k.setup (kept_turned k clock turns) reach id)
     rule_is turn of =
         of.turned_is k.setup (kept_turned k clock turns)
-        (at_rest k clock up is.done turns is.is id of.from of.taken is_next at node incarnation refl own) (of.taken.own own)
+        (at_rest k clock reach is.done turns is.is id of.from of.taken is_next at node incarnation refl own) (of.taken.own own)
 
-    pub same_then : IsTurnOf k id at up None → IsTurned k clock up (is.done ++ id ∷ []) turns
-    same_then of = turned_same k clock up is.done turns is.is id of.from of.taken is_next (rule_is None of)
+    pub same_then : IsTurnOf k id at reach None → IsTurned k clock reach (is.done ++ id ∷ []) turns
+    same_then of = turned_same k clock reach is.done turns is.is id of.from of.taken is_next (rule_is None of)
 
-    pub more_then : (turn : Turn) → IsTurnOf k id at up (Some turn) → (after : TurnList) → IsAdded turns id turn after →
-        IsTurned k clock up (is.done ++ id ∷ []) after
+    pub more_then : (turn : Turn) → IsTurnOf k id at reach (Some turn) → (after : TurnList) → IsAdded turns id turn after →
+        IsTurned k clock reach (is.done ++ id ∷ []) after
     more_then turn of after added =
-        turned_more k clock up is.done turns is.is id of.from of.taken is_next turn of.same after added own (rule_is (Some turn) of)
+        turned_more k clock reach is.done turns is.is id of.from of.taken is_next turn of.same after added own (rule_is (Some turn) of)
 
-pub turning_ends : (k : Holding) (clock : ℕ) (up : List ℕ → Bool) (left : List ℕ) (turns : TurnList) → IsTurning k clock up left turns → left ≡ [] →
-    IsTurned k clock up (ids_of (ticked (kept_of k) clock)) turns
-turning_ends k clock up left turns is none =
-    subst (λ (ids : List ℕ). IsTurned k clock up ids turns) (sym (append-nil is.done) ∙ sym (ap (λ (ids : List ℕ). is.done ++ ids) none) ∙ is.split) is.is
+pub turning_ends : (k : Holding) (clock : ℕ) (reach : Reach) (left : List ℕ) (turns : TurnList) → IsTurning k clock reach left turns → left ≡ [] →
+    IsTurned k clock reach (ids_of (ticked (kept_of k) clock)) turns
+turning_ends k clock reach left turns is none =
+    subst (λ (ids : List ℕ). IsTurned k clock reach ids turns) (sym (append-nil is.done) ∙ sym (ap (λ (ids : List ℕ). is.done ++ ids) none) ∙ is.split) is.is

@@ -10,6 +10,7 @@ use Rattle.std.specs.Ordering.{nat_cmp}
 use Rattle.std.proofs.lemmas.Bool.{cases_Bool, true≢false}
 use Rattle.std.proofs.lemmas.Bool.Decides.{Decides-eqb, nat_tests}
 use Rattle.mc_model.specs.synod.Lists.{In}
+use Rattle.mc_model.specs.node.Reach.{Reach}
 use Rattle.node_model.specs.Kept.{Held}
 use Rattle.node_model.specs.Requests.{id_of}
 use Rattle.node_model.specs.Ticks.{ids_of, ids_with, ticked}
@@ -19,14 +20,15 @@ use Rattle.waiting_requests.specs.Waiting.{held_in}
 use Rattle.shelf.specs.Shelved.{value_at}
 use Rattle.node_parts.specs.declared.message.Message.{Message as Filed}
 use Rattle.tick_rules.specs.declared.standpoint.Standpoint.{Standpoint}
-use Rattle.node_parts.specs.Living.{AreRising, IsNextBy}
+use Rattle.node_parts.specs.Living.{IsNextBy, lower_of}
+use Rattle.node_parts.specs.Rising.{AreRising}
 use Rattle.node_parts.specs.Sleeping.{IsAsleep}
 use Rattle.node_parts.proofs.Dropping.{at_itself}
 use Rattle.node_parts.proofs.Rising.{each, in_put, put_in, rise_of, rise_put}
 use Rattle.node_kept.specs.declared.kept.Kept.{Kept as Holding}
 use Rattle.node_kept.specs.declared.walk.Walk.{Walk}
 use Rattle.node_kept.specs.Keeping.{kept_of}
-use Rattle.node_kept.specs.Walking.{IsWalk, next_of}
+use Rattle.node_kept.specs.Walking.{IsWalk}
 use Rattle.node_kept.proofs.TickTurns.{same_ids}
 
 -- ---- with the ids of which requests ask
@@ -115,7 +117,7 @@ next_by P Q entries from (Some next) so is = (is.0, (is.1.0, λ id m found above
 
 -- ---- a walk
 
-module _ (k : Holding) (s : Standpoint) (up : List ℕ → Bool) where
+module _ (k : Holding) (s : Standpoint) (reach : Reach) where
   abbrev clock : ℕ
   clock = s.clock
 
@@ -141,9 +143,9 @@ module _ (k : Holding) (s : Standpoint) (up : List ℕ → Bool) where
   rise_all ascends = subst AreRising (sym all_is) (rise_with (timely clock (held_in k.queue)) (keys_of k.messages.entries)
       (rise_of (keys_of k.messages.entries) ascends))
 
-  pub walk_begins : (walk : Walk) → walk.from ≡ 0 → IsNextBy (IsAsleep s up) k.messages.entries 0 walk.live → IsLeastFrom 0 Is_asked walk.asked → IsWalk k s up walk
+  pub walk_begins : (walk : Walk) → walk.from ≡ 0 → IsNextBy (IsAsleep s reach) k.messages.entries 0 walk.live → IsLeastFrom 0 Is_asked walk.asked → IsWalk k s reach walk
   walk_begins walk from live asked = record {
-    live = subst (λ (n : ℕ). IsNextBy (IsAsleep s up) k.messages.entries n walk.live) (sym from) live;
+    live = subst (λ (n : ℕ). IsNextBy (IsAsleep s reach) k.messages.entries n walk.live) (sym from) live;
     asked = subst (λ (n : ℕ). IsLeastFrom n Is_asked walk.asked) (sym from) asked;
   }
 
@@ -152,7 +154,7 @@ module _ (k : Holding) (s : Standpoint) (up : List ℕ → Bool) where
     pub unasked : In id Asked → ⊥
     pub message : Filed
     pub kept : value_at k.messages.entries id ≡ Some message
-    pub asleep : IsAsleep s up id message
+    pub asleep : IsAsleep s reach id message
 
   -- the next message is that of this id
   pub record IsNext (walk : Walk) (id : ℕ) : Type 0 where
@@ -160,8 +162,8 @@ module _ (k : Holding) (s : Standpoint) (up : List ℕ → Bool) where
     pub from : walk.from ≤ id
     pub passed : (other : ℕ) → In other All_ids → walk.from ≤ other → other < id → IsPassed other
     pub on : (new : Walk) → new.from ≡ suc id → (walk.live ≢ Some id → new.live ≡ walk.live) →
-        (walk.live ≡ Some id → IsNextBy (IsAsleep s up) k.messages.entries (suc id) new.live) →
-        (walk.asked ≢ Some id → new.asked ≡ walk.asked) → (walk.asked ≡ Some id → IsLeastFrom (suc id) Is_asked new.asked) → IsWalk k s up new
+        (walk.live ≡ Some id → IsNextBy (IsAsleep s reach) k.messages.entries (suc id) new.live) →
+        (walk.asked ≢ Some id → new.asked ≡ walk.asked) → (walk.asked ≡ Some id → IsLeastFrom (suc id) Is_asked new.asked) → IsWalk k s reach new
 
   same_or : (id : ℕ) (it : Option ℕ) → (it ≡ Some id) ⊎ (it ≢ Some id)
   same_or id None = inr (λ same. absurd (cc))
@@ -176,7 +178,7 @@ module _ (k : Holding) (s : Standpoint) (up : List ℕ → Bool) where
   Asked_from id None = Unit {0}
   Asked_from id (Some first) = id ≤ first
 
-  module _ (walk : Walk) (is : IsWalk k s up walk) (id : ℕ) (from : walk.from ≤ id) (live_from : Asked_from id walk.live)
+  module _ (walk : Walk) (is : IsWalk k s reach walk) (id : ℕ) (from : walk.from ≤ id) (live_from : Asked_from id walk.live)
       (asked_from : Asked_from id walk.asked) where
     asked_later : (other : ℕ) → Is_asked other → walk.from ≤ other → id ≤ other
     asked_later other among from_there = by_asked walk.asked is.asked asked_from
@@ -185,10 +187,10 @@ module _ (k : Holding) (s : Standpoint) (up : List ℕ → Bool) where
         by_asked None least after = let below = least other among in absurd (omega (arith, below, from_there))
         by_asked (Some first) least after = let lower = least.1.1 other among from_there in omega (arith, lower, after)
 
-    asleep_before : (other : ℕ) (m : Filed) → value_at k.messages.entries other ≡ Some m → walk.from ≤ other → other < id → IsAsleep s up other m
+    asleep_before : (other : ℕ) (m : Filed) → value_at k.messages.entries other ≡ Some m → walk.from ≤ other → other < id → IsAsleep s reach other m
     asleep_before other m found from_there before = by_live walk.live is.live live_from
       where
-        by_live : (live : Option ℕ) → IsNextBy (IsAsleep s up) k.messages.entries walk.from live → Asked_from id live → IsAsleep s up other m
+        by_live : (live : Option ℕ) → IsNextBy (IsAsleep s reach) k.messages.entries walk.from live → Asked_from id live → IsAsleep s reach other m
         by_live None next after = next other m found from_there
         by_live (Some first) next after = next.1.1 other m found from_there (omega (arith, before, after))
 
@@ -202,11 +204,11 @@ module _ (k : Holding) (s : Standpoint) (up : List ℕ → Bool) where
           | inr asked ↦ absurd (unasked asked)
         ]
 
-    live_then : (live : Option ℕ) → walk.live ≡ live → live ≢ Some id → IsNextBy (IsAsleep s up) k.messages.entries (suc id) live
-    live_then None at differs = let next = subst (IsNextBy (IsAsleep s up) k.messages.entries walk.from) at is.live in
+    live_then : (live : Option ℕ) → walk.live ≡ live → live ≢ Some id → IsNextBy (IsAsleep s reach) k.messages.entries (suc id) live
+    live_then None at differs = let next = subst (IsNextBy (IsAsleep s reach) k.messages.entries walk.from) at is.live in
         λ other m found above. next other m found (omega (arith, above, from))
     live_then (Some first) at differs =
-        let next = subst (IsNextBy (IsAsleep s up) k.messages.entries walk.from) at is.live in
+        let next = subst (IsNextBy (IsAsleep s reach) k.messages.entries walk.from) at is.live in
         let after : id ≤ first = subst (Asked_from id) at live_from in
         let higher : suc id ≤ first = elim (cases_Bool (first == id)) [
           | inl same ↦ absurd (differs (ap (λ (n : ℕ). Some n) ((Decides-eqb first id).0 same)))
@@ -232,9 +234,9 @@ module _ (k : Holding) (s : Standpoint) (up : List ℕ → Bool) where
       from = from;
       passed = passed_before;
       on = λ new begins same_live live same_asked asked. record {
-        live = subst (λ (n : ℕ). IsNextBy (IsAsleep s up) k.messages.entries n new.live) (sym begins) (elim (same_or id walk.live) [
+        live = subst (λ (n : ℕ). IsNextBy (IsAsleep s reach) k.messages.entries n new.live) (sym begins) (elim (same_or id walk.live) [
           | inl is_it ↦ live is_it
-          | inr differs ↦ subst (IsNextBy (IsAsleep s up) k.messages.entries (suc id)) (sym (same_live differs)) (live_then walk.live refl differs)
+          | inr differs ↦ subst (IsNextBy (IsAsleep s reach) k.messages.entries (suc id)) (sym (same_live differs)) (live_then walk.live refl differs)
         ]);
         asked = subst (λ (n : ℕ). IsLeastFrom n Is_asked new.asked) (sym begins) (elim (same_or id walk.asked) [
           | inl is_it ↦ asked is_it
@@ -243,12 +245,12 @@ module _ (k : Holding) (s : Standpoint) (up : List ℕ → Bool) where
       };
     }
 
-  pub next_is : (walk : Walk) → IsWalk k s up walk → (id : ℕ) → next_of walk.live walk.asked ≡ Some id → IsNext walk id
+  pub next_is : (walk : Walk) → IsWalk k s reach walk → (id : ℕ) → lower_of walk.live walk.asked ≡ Some id → IsNext walk id
   next_is walk is id next = by_both walk.live walk.asked refl refl next
     where
       live_one : (first : ℕ) → walk.live ≡ Some first → Asked_from first walk.asked → IsNext walk first
       live_one first at asked_from =
-          let live = subst (IsNextBy (IsAsleep s up) k.messages.entries walk.from) at is.live in
+          let live = subst (IsNextBy (IsAsleep s reach) k.messages.entries walk.from) at is.live in
           it_is_next walk is first live.1.0 (subst (Asked_from first) (sym at) (omega arith)) asked_from (all_in first (inl live.0))
 
       asked_one : (first : ℕ) → walk.asked ≡ Some first → Asked_from first walk.live → IsNext walk first
@@ -259,7 +261,7 @@ module _ (k : Holding) (s : Standpoint) (up : List ℕ → Bool) where
       so : (one : ℕ) → IsNext walk one → Some one ≡ Some id → IsNext walk id
       so one is_one same = let ids : one ≡ id = cc in subst (IsNext walk) ids is_one
 
-      by_both : (live asked : Option ℕ) → walk.live ≡ live → walk.asked ≡ asked → next_of live asked ≡ Some id → IsNext walk id
+      by_both : (live asked : Option ℕ) → walk.live ≡ live → walk.asked ≡ asked → lower_of live asked ≡ Some id → IsNext walk id
       by_both None None live_is asked_is same = absurd (cc)
       by_both None (Some first) live_is asked_is same = so first (asked_one first asked_is (subst (Asked_from first) (sym live_is) tt)) same
       by_both (Some first) None live_is asked_is same = so first (live_one first live_is (subst (Asked_from first) (sym asked_is) tt)) same
@@ -274,12 +276,12 @@ module _ (k : Holding) (s : Standpoint) (up : List ℕ → Bool) where
               so first (live_one first live_is (subst (Asked_from first) (sym asked_is) lower)) it
 
   -- all that are left are passed
-  pub all_passed : (walk : Walk) → IsWalk k s up walk → next_of walk.live walk.asked ≡ None → (other : ℕ) → In other All_ids →
+  pub all_passed : (walk : Walk) → IsWalk k s reach walk → lower_of walk.live walk.asked ≡ None → (other : ℕ) → In other All_ids →
       walk.from ≤ other →
       IsPassed other
   all_passed walk is none other among from_there = by_both walk.live walk.asked refl refl none
     where
-      by_both : (live asked : Option ℕ) → walk.live ≡ live → walk.asked ≡ asked → next_of live asked ≡ None → IsPassed other
+      by_both : (live asked : Option ℕ) → walk.live ≡ live → walk.asked ≡ asked → lower_of live asked ≡ None → IsPassed other
       by_both None None live_is asked_is so =
           passed_before walk is (suc other) (omega (arith, from_there)) (subst (Asked_from (suc other)) (sym live_is) tt)
           (subst (Asked_from (suc other)) (sym asked_is) tt) other among from_there (omega arith)

@@ -8,6 +8,9 @@ pub use Rattle.node_parts.specs.declared.input.Input
 pub use Rattle.node_parts.specs.declared.message.Message
 pub use Rattle.node_parts.specs.declared.outputs.Outputs
 pub use Rattle.node_parts.specs.Copies
+pub use Rattle.node_parts.specs.Reaching
+pub use Rattle.node_parts.specs.declared.may_begin.MayBegin
+pub use Rattle.node_parts.specs.declared.reach.Reach
 pub mod Setups
 pub mod Queueing
 pub mod Deleting

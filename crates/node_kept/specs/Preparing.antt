@@ -13,7 +13,7 @@ packet_in (given.Packet packet) = Some packet
 packet_in (given.Request account request) = None
 packet_in (given.Grant id) = None
 packet_in (given.Answered slot outcome) = None
-packet_in (given.Tick moment up) = None
+packet_in (given.Tick moment reach) = None
 
 -- it is the step for what came, and has the packet that came
 pub record IsPrepared (k : Kept) (input : Input) (step : Step) (packet : Option Packet) : Type 0 where

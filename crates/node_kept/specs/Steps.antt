@@ -17,7 +17,7 @@ use Rattle.node_model.specs.Granted.{is_open, known_slot}
 use Rattle.delivery.specs.Kept.{outcome_kept}
 use Rattle.desk.specs.Arrivals.{requested}
 use Rattle.pdu_tables.specs.StatusCodes.{status_code}
-use Rattle.delivery.specs.Targets.{is_up}
+use Rattle.node_parts.specs.Reaching.{reach_of}
 use Rattle.waiting_requests.specs.Replying.{reply_given}
 use Rattle.waiting_requests.specs.Waiting.{held_in}
 use Rattle.shelf.specs.Shelved.{with_value}
@@ -53,7 +53,7 @@ input_of setup k (given.Packet packet) = Delivery (packet_of packet)
 input_of setup k (given.Request account request) = requested setup k account request
 input_of setup k (given.Grant id) = Grant (known_slot k id)
 input_of setup k (given.Answered slot outcome) = Response slot (outcome_kept outcome)
-input_of setup k (given.Tick moment up) = Tick moment (is_up up.items)
+input_of setup k (given.Tick moment reach) = Tick moment (reach_of reach)
 
 -- why it is refused
 abbrev pub refused_by : Setup → Kept → Given → Option StepFault
@@ -61,7 +61,7 @@ refused_by setup k (given.Packet packet) = None
 refused_by setup k (given.Request account request) = None
 refused_by setup k (given.Grant id) = option_map (λ refusal. faults.Grant (reason_of refusal)) (grant_refusal setup k id)
 refused_by setup k (given.Answered slot outcome) = if is_open k slot then None else Some faults.NotGranted
-refused_by setup k (given.Tick moment up) = None
+refused_by setup k (given.Tick moment reach) = None
 
 -- a step that is not refused fails for want of memory alone
 abbrev pub IsFault : Option StepFault → StepFault → Type 0
@@ -189,7 +189,7 @@ GrantsKnown k (given.Packet packet) granted = Unit {0}
 GrantsKnown k (given.Request account request) granted = Unit {0}
 GrantsKnown k (given.Grant id) granted = IfSome granted (IsKnown k id)
 GrantsKnown k (given.Answered slot outcome) granted = Unit {0}
-GrantsKnown k (given.Tick moment up) granted = Unit {0}
+GrantsKnown k (given.Tick moment reach) granted = Unit {0}
 
 -- the step of the model for this input, which is not refused
 pub record IsStepFor (k : Holding) (input : Given) (step : Step) : Type 0 where

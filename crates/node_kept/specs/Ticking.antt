@@ -3,6 +3,7 @@ use Rattle.std.specs.Prelude.{◌≡◌, ℕ, Bool, List, [], ◌∷◌, ◌++�
 use Rattle.std.specs.Box.{box_value}
 use Rattle.mc_model.specs.synod.Lists.{In}
 use Rattle.mc_model.specs.synod.Packet.{Slot}
+use Rattle.mc_model.specs.node.Reach.{Reach}
 use Rattle.mc_model.specs.node.Setup.{Setup}
 use Rattle.node_model.specs.Kept.{Kept}
 use Rattle.node_model.specs.Rules.{first_rule}
@@ -41,16 +42,16 @@ abbrev pub ids_turned : TurnList → List ℕ
 ids_turned turns = map (λ (put : Put). put.id) turns.messages.items
 
 -- At this clock a tick makes this of the messages of these ids, in their order.
-pub record IsTurned (k : Holding) (clock : ℕ) (up : List ℕ → Bool) (ids : List ℕ) (turns : TurnList) : Type 0 where
-  pub made : ruled_each k.setup up ids (ticked (kept_of k) clock) ≡ record { kept = kept_turned k clock turns; packets = map packet_of turns.packets.items }
+pub record IsTurned (k : Holding) (clock : ℕ) (reach : Reach) (ids : List ℕ) (turns : TurnList) : Type 0 where
+  pub made : ruled_each k.setup reach ids (ticked (kept_of k) clock) ≡ record { kept = kept_turned k clock turns; packets = map packet_of turns.packets.items }
   pub saved : (slot : Slot) → records_of (entries_turned k turns) slot ≡ records_of k.messages.entries slot
   pub own : AreOf k.setup k.incarnation (entries_turned k turns)
   pub only : (id : ℕ) → In id (ids_turned turns) → In id ids
 
 -- a tick makes this of the message of one id
-pub record IsTurnOf (k : Holding) (id : ℕ) (s : Standpoint) (up : List ℕ → Bool) (turn : Option Turn) : Type 0 where
+pub record IsTurnOf (k : Holding) (id : ℕ) (s : Standpoint) (reach : Reach) (turn : Option Turn) : Type 0 where
   pub from : Filed
   pub taken : IsTaken k id from
   pub same : IsOfTurn id from turn
   pub turned_is : (setup : Setup) (kept : Kept) → IsAtRest setup kept (timely s.clock (held_in k.queue)) id from s →
-      IsOf setup.node kept.incarnation setup.nodes id from → turned kept id turn ≡ ruled setup kept id (first_rule setup kept up id)
+      IsOf setup.node kept.incarnation setup.nodes id from → turned kept id turn ≡ ruled setup kept id (first_rule setup kept reach id)

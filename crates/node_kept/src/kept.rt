@@ -34,8 +34,7 @@ use crate::setup::Setup;
 use crate::step::{Counted, Next, Put, QuietStep, Step};
 use fate_chain::{Author, Chain, Decree, Kind};
 use mc_types::{Ballot, Incarnation, Moment, MsgId, NodeNo, Slot};
-use node_parts::{Input, Message, MessageShelf, Outputs, StepFault, sender};
-use pdu_codec::SystemId;
+use node_parts::{Input, Message, MessageShelf, Outputs, Reach, StepFault, sender};
 use std::alloc::{AllocError, Global};
 use synod_acceptor::{Name, Packet, Record, Report, Verdict, Vote};
 use tick_rules::Standpoint;
@@ -81,7 +80,7 @@ impl Kept {
         Ok(kept)
     }
 
-    /// Begins in this incarnation, of a node that opened and took no step yet. It takes no memory.
+    /// MayBegin in this incarnation, of a node that opened and took no step yet. It takes no memory.
     pub fn begin(&mut self, incarnation: Incarnation)
         ensures { (with : SetupValue) (starts : ℕ) (records : Records) → IsOpen with starts records self.old → IsOpen with incarnation records self.new }
     {
@@ -124,8 +123,8 @@ impl Kept {
                 let step = self.on_answered(slot, outcome)?;
                 Ok((step, None))
             }
-            Input::Tick(moment, up) => {
-                let step = self.on_tick(moment, up)?;
+            Input::Tick(moment, reach) => {
+                let step = self.on_tick(moment, reach)?;
                 Ok((step, None))
             }
         }
@@ -223,7 +222,7 @@ impl Kept {
             queue,
             messages,
             room,
-            up,
+            reach,
         } = next;
         self.clock = clock;
         self.serial = serial;
@@ -236,7 +235,7 @@ impl Kept {
         rest_if(&mut self.messages, drops_rounds);
         put_each(&mut self.messages, messages);
         let at = self.standpoint();
-        doze_if(&mut self.messages, &at, up);
+        doze_if(&mut self.messages, &at, reach);
     }
 
     /// Whether the node is one of the cluster.
@@ -276,7 +275,7 @@ impl Kept {
         ensures queue { result.queue ≡ Same }
         ensures messages { result.messages.items ≡ [] }
         ensures room { result.room ≡ None }
-        ensures up { result.up ≡ None }
+        ensures reach { result.reach ≡ None }
     {
         Next {
             clock: self.clock,
@@ -287,7 +286,7 @@ impl Kept {
             queue: QueueChange::Same,
             messages: Vec::new(self.alloc),
             room: None,
-            up: None,
+            reach: None,
         }
     }
 
@@ -733,12 +732,12 @@ fn put_each(kept: &mut MessageShelf, mut messages: Vec<Put>)
     }
 }
 
-/// Notes until when messages sleep with these accounts, if there are any. It takes no memory.
+/// Notes until when messages sleep, if it was a tick, by what it was told of accounts and of messages. It takes no memory.
 #[inline(always)]
-fn doze_if(kept: &mut MessageShelf, at: &Standpoint, up: Option<Vec<SystemId>>)
+fn doze_if(kept: &mut MessageShelf, at: &Standpoint, reach: Option<Reach>)
     ensures { kept.new.entries ≡ kept.old.entries }
 {
-    if let Some(up) = up {
-        kept.doze(at, up);
+    if let Some(reach) = reach {
+        kept.doze(at, reach);
     }
 }

@@ -17,7 +17,9 @@ mod turn_list;
 mod walk;
 
 pub use kept::Kept;
-pub use node_parts::{GrantRefusal, Input, Outputs, StepFault, sender};
+pub use node_parts::{
+    GrantRefusal, Input, MayBegin, MessageIds, Outputs, Reach, StepFault, sender,
+};
 pub use queue_change::QueueChange;
 pub use setup::Setup;
 pub use step::{Counted, Next, Put, Step};

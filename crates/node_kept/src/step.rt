@@ -2,8 +2,7 @@
 
 use crate::queue_change::QueueChange;
 use mc_types::{Moment, MsgId};
-use node_parts::{Message, MessageRoom, Outputs, Recount};
-use pdu_codec::SystemId;
+use node_parts::{Message, MessageRoom, Outputs, Reach, Recount};
 use synod_acceptor::Change;
 
 /// A message that takes the place of what is kept of its id.
@@ -28,8 +27,8 @@ pub(crate) struct QuietStep {
 
 /// What is kept after a step: the clock, the serial of the next message, how many tickets are given, the vote that is counted anew, if one is,
 /// whether all rounds end, what becomes of the requests that wait, and then each message that is not kept as it was, with room for them, if
-/// room is wanted. Of several messages of an id the first counts. A tick has the accounts with which it was made: with these it is noted until
-/// when messages sleep.
+/// room is wanted. Of several messages of an id the first counts. A tick has what it was told of accounts and of messages: for these it is noted
+/// until when messages sleep.
 #[derive(Drop)]
 pub struct Next {
     pub clock: Moment,
@@ -40,7 +39,7 @@ pub struct Next {
     pub queue: QueueChange,
     pub messages: Vec<Put>,
     pub room: Option<MessageRoom>,
-    pub up: Option<Vec<SystemId>>,
+    pub reach: Option<Reach>,
 }
 
 /// What a step gives out, the change that is saved before, if any, and what is kept after it.

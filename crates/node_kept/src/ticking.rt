@@ -14,10 +14,10 @@ ghost use Rattle.node_model.specs.Ticks.{asked_again, ids_of, on_tick, ticked};
 ghost use Rattle.waiting_requests.specs.Numbers.{IsLeastFrom, ids_in};
 ghost use Rattle.waiting_requests.specs.Queues.{timely};
 ghost use Rattle.waiting_requests.specs.Waiting.{held_in};
-ghost use Rattle.delivery.specs.Targets.{is_up};
 ghost use Rattle.shelf.specs.Shelved.{value_at};
 ghost use Rattle.synod_acceptor.specs.Packets.{packet_of};
-ghost use Rattle.node_parts.specs.Living.{IsNextBy, IsPassedBy};
+ghost use Rattle.node_parts.specs.Living.{IsNextBy, IsPassedIn};
+ghost use Rattle.node_parts.specs.Reaching.{reach_of};
 ghost use Rattle.node_kept.specs.Idling.{IsIdle, NoneFits};
 ghost use Rattle.node_kept.specs.Keeping.{AreOwn, kept_of};
 ghost use Rattle.node_kept.specs.Steps.{IsStep};
@@ -29,8 +29,7 @@ use crate::step::Step;
 use crate::turn_list::TurnList;
 use crate::walk::Walk;
 use mc_types::{Moment, MsgId};
-use node_parts::{Message, Outputs, Turn};
-use pdu_codec::SystemId;
+use node_parts::{MayBegin, Message, Outputs, Reach, Turn};
 use std::alloc::AllocError;
 use synod_acceptor::Packet;
 use tick_rules::Standpoint;
@@ -38,17 +37,18 @@ use tick_rules::Standpoint;
 impl Kept {
     /// The step of a tick: the clock rises to this moment, if it is behind it;
     /// those that waited too long are answered so and wait no more, and those are asked of again of which no majority told; all rounds end,
-    /// and for each message, by ascending ids, the first rule that fits starts one. `up` has the accounts of which a session may receive.
+    /// and for each message, by ascending ids, the first rule that fits starts one. `reach` has the accounts of which a session may receive and the
+    /// messages of which an attempt may begin.
     /// It takes no memory if nothing is due.
     #[inline(never)]
-    pub(crate) fn on_tick(&self, moment: Moment, up: Vec<SystemId>) -> Result<Step, AllocError>
+    pub(crate) fn on_tick(&self, moment: Moment, reach: Reach) -> Result<Step, AllocError>
         requires { AreOwn self.now }
-        ensures step { IfOk result (IsStep self.now (on_tick self.now.setup (kept_of self.now) moment (is_up up.items))) }
-        ensures idle { IsIdle self.now.setup (kept_of self.now) (max self.now.clock moment) (is_up up.items) → IsOk result }
+        ensures step { IfOk result (IsStep self.now (on_tick self.now.setup (kept_of self.now) moment (reach_of reach))) }
+        ensures idle { IsIdle self.now.setup (kept_of self.now) (max self.now.clock moment) (reach_of reach) → IsOk result }
     {
         let clock = self.clock.max(moment);
         let replies = self.queue.late(clock)?;
-        let turns = self.turns(clock, &up)?;
+        let turns = self.turns(clock, &reach)?;
         let room = self.messages.room(self.alloc, turns.messages.len())?;
         let packets = self.with_questions(clock, turns.packets)?;
         let mut next = self.unchanged();
@@ -57,7 +57,7 @@ impl Kept {
         next.queue = QueueChange::Expire(clock);
         next.messages = turns.messages;
         next.room = Some(room);
-        next.up = Some(up);
+        next.reach = Some(reach);
         Ok(Step {
             outputs: Outputs::telling(self.alloc, packets, replies),
             change: None,
@@ -84,13 +84,14 @@ impl Kept {
     }
 
     /// What a tick makes of all messages, by ascending ids, at this clock, once all rounds ended: of those that are kept, and of those that
-    /// the requests ask of which did not wait too long. It looks at those that are asked of, or live and not noted to be asleep, since no rule
-    /// fits another. `up` has the accounts of which a session may receive. It takes memory only for those that a rule fits.
+    /// the requests ask of which did not wait too long. It looks at those that are asked of, or live and not noted to be asleep, and at those of
+    /// which an attempt may begin, if not of all, since no rule fits another. `reach` has the accounts of which a session may receive and the messages
+    /// of which an attempt may begin. It takes memory only for those that a rule fits.
     #[inline(never)]
-    fn turns(&self, clock: Moment, up: &[SystemId]) -> Result<TurnList, AllocError>
+    fn turns(&self, clock: Moment, reach: &Reach) -> Result<TurnList, AllocError>
         requires { AreOwn self.now }
-        ensures turned { IfOk result (IsTurned self.now clock (is_up up.now) (ids_of (ticked (kept_of self.now) clock))) }
-        ensures idle { NoneFits self.now.setup (kept_of self.now) clock (is_up up.now) →
+        ensures turned { IfOk result (IsTurned self.now clock (reach_of reach.now) (ids_of (ticked (kept_of self.now) clock))) }
+        ensures idle { NoneFits self.now.setup (kept_of self.now) clock (reach_of reach.now) →
             IsOkAnd result (λ turns. (turns.messages.items ≡ []) × (turns.packets.items ≡ [])) }
     {
         let at = Standpoint {
@@ -98,46 +99,60 @@ impl Kept {
             clock,
         };
         self.messages.ascends();
-        let asleep = self.messages.asleep_at(&at, up);
+        let asleep = self.messages.asleep_at(&at, reach);
         let mut turns = TurnList::empty(self.alloc);
         let mut walk = Walk {
             from: 0,
-            live: self.messages.next_due(0, &asleep),
+            live: self.messages.next_due(0, &asleep, &reach.may),
             asked: self.queue.next_id(clock, 0),
         };
         while let Some(id) = walk.next() {
-            if let Some(turn) = self.turn_of(id, &at, up)? {
+            if let Some(turn) = self.turn_of(id, &at, reach)? {
                 turns.add(self.alloc, id, turn)?;
             }
-            walk = self.passed(clock, &asleep, walk, id);
+            walk = self.passed(clock, &asleep, &reach.may, walk, id);
         }
         Ok(turns)
     }
 
     /// Where a walk stands after the message of this id, its next one. `asleep` is the clock at which messages are noted to sleep, if they are. It
     /// takes no memory.
-    fn passed(&self, clock: Moment, asleep: &Option<Moment>, walk: Walk, id: MsgId) -> Walk
+    fn passed(
+        &self,
+        clock: Moment,
+        asleep: &Option<Moment>,
+        may: &MayBegin,
+        walk: Walk,
+        id: MsgId,
+    ) -> Walk
         ensures from { result.from ≡ suc id }
         ensures same_live { walk.live ≢ Some id → result.live ≡ walk.live }
-        ensures live { walk.live ≡ Some id → IsNextBy (IsPassedBy self.now.messages asleep.now) self.now.messages.entries (suc id) result.live }
+        ensures live { walk.live ≡ Some id → IsNextBy (IsPassedIn self.now.messages asleep.now may.now) self.now.messages.entries (suc id) result.live }
         ensures same_asked { walk.asked ≢ Some id → result.asked ≡ walk.asked }
         ensures asked { walk.asked ≡ Some id →
             IsLeastFrom (suc id) (λ other. In other (ids_in (timely clock (held_in self.now.queue)))) result.asked }
     {
         Walk {
             from: id.number() + 1,
-            live: self.live_behind(asleep, walk.live, id),
+            live: self.live_behind(asleep, may, walk.live, id),
             asked: self.asked_behind(clock, walk.asked, id),
         }
     }
 
-    /// The next message that is live and not noted to be asleep at this clock, if there is one, after the one of this id.
-    fn live_behind(&self, asleep: &Option<Moment>, live: Option<MsgId>, id: MsgId) -> Option<MsgId>
+    /// The next message that is live and not noted to be asleep at this clock, if there is one, or of which an attempt may begin, if not of all, after
+    /// the one of this id.
+    fn live_behind(
+        &self,
+        asleep: &Option<Moment>,
+        may: &MayBegin,
+        live: Option<MsgId>,
+        id: MsgId,
+    ) -> Option<MsgId>
         ensures same { live ≢ Some id → result ≡ live }
-        ensures next { live ≡ Some id → IsNextBy (IsPassedBy self.now.messages asleep.now) self.now.messages.entries (suc id) result }
+        ensures next { live ≡ Some id → IsNextBy (IsPassedIn self.now.messages asleep.now may.now) self.now.messages.entries (suc id) result }
     {
         match live {
-            Some(next) if next == id => self.messages.next_due(id.number() + 1, asleep),
+            Some(next) if next == id => self.messages.next_due(id.number() + 1, asleep, may),
             _ => live,
         }
     }
@@ -154,23 +169,18 @@ impl Kept {
     }
 
     /// What a tick makes of the message of this id, if it is not kept as it was. If no rule fits, it takes no memory.
-    fn turn_of(
-        &self,
-        id: MsgId,
-        at: &Standpoint,
-        up: &[SystemId],
-    ) -> Result<Option<Turn>, AllocError>
+    fn turn_of(&self, id: MsgId, at: &Standpoint, reach: &Reach) -> Result<Option<Turn>, AllocError>
         requires own { AreOwn self.now }
         requires node { at.now.author.node ≡ self.now.setup.node }
         requires incarnation { at.now.author.incarnation ≡ self.now.incarnation }
-        ensures turned { IfOk result (IsTurnOf self.now id at.now (is_up up.now)) }
-        ensures idle { first_rule self.now.setup (ticked (kept_of self.now) at.now.clock) (is_up up.now) id ≡ None → result ≡ Ok None }
+        ensures turned { IfOk result (IsTurnOf self.now id at.now (reach_of reach.now)) }
+        ensures idle { first_rule self.now.setup (ticked (kept_of self.now) at.now.clock) (reach_of reach.now) id ≡ None → result ≡ Ok None }
     {
         match self.find(id) {
-            Some(message) => message.turn(id, at, &self.queue, up),
+            Some(message) => message.turn(id, at, &self.queue, reach),
             None => {
                 let message = Message::fresh(self.alloc, self.author(), self.nodes());
-                message.turn(id, at, &self.queue, up)
+                message.turn(id, at, &self.queue, reach)
             }
         }
     }

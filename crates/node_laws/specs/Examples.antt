@@ -1,5 +1,6 @@
 -- Worked rows of a cluster of one node, and of one of three.
 use Rattle.std.specs.Prelude.{ℕ, Bool, true, false, List, [], ◌∷◌, ◌++◌}
+use Rattle.mc_model.specs.node.Reach.{Reach, of_all}
 use Rattle.mc_model.specs.message.Decree.{Attempt, Decree, Deleted, Delivered, Failed, Fate, Kind}
 use Rattle.mc_model.specs.synod.Packet.{Slot, slot_at}
 use Rattle.mc_model.specs.node.Actor.{Cancel, Query, Submit}
@@ -24,11 +25,15 @@ abbrev pub alone : Setup
 alone = record { node = 1; nodes = 1; first_serial = 1; default_validity = 259200 }
 
 -- every account is up, or none
-abbrev pub all_up : List ℕ → Bool
-all_up text = true
+abbrev pub all_up : Reach
+all_up = of_all (λ text. true)
 
-abbrev pub none_up : List ℕ → Bool
-none_up text = false
+abbrev pub none_up : Reach
+none_up = of_all (λ text. false)
+
+-- all are up, and an attempt may begin of no message
+abbrev pub none_begin : Reach
+none_begin = record { up = λ text. true; may = λ id. false }
 
 -- the submit_sm comes at midnight
 abbrev pub submits : List Input

@@ -58,7 +58,7 @@ MayCome setup k (Crash packet after) = IsWellMade packet
 MayCome setup k (Arrival request) = (is_busy (length k.held) k.ticket ≡ false) × IsFitToCome setup k request
 MayCome setup k (Refusal status) =
     (status ≡ throttled → is_busy (length k.held) k.ticket ≡ true) × (status ≡ queue_full → most_serial < k.serial)
-MayCome setup k (Tick moment up) = Unit {0}
+MayCome setup k (Tick moment reach) = Unit {0}
 MayCome setup k (Grant slot) = IsGrantable setup k slot
 MayCome setup k (Response slot outcome) = IsOpen k slot outcome
 MayCome setup k (Restart lost) = k.incarnation + lost < 9999

@@ -22,6 +22,7 @@ ghost use Rattle.node_laws.specs.Examples.{
   grants,
   loses,
   lost,
+  none_begin,
   none_up,
   other_ballot,
   played_alone,
@@ -84,12 +85,13 @@ pub fn a_message_is_delivered_alone()
 {}
 
 /// After a restart a node learns again how far a chain has come at a tick, by its own vote; an attempt of its older incarnation is
-/// not granted, is lost at the next tick, and is made anew 60 seconds later.
+/// not granted, is lost at the next tick, and is made anew 60 seconds later, if one may begin.
 pub fn an_attempt_is_lost_by_a_restart()
     ensures known { (message_at (played_alone restarts).kept first_id).known ≡ Some attempted }
     ensures refused { grant_refusal alone (played_alone restarts).kept first_id ≡ Some OlderIncarnation }
     ensures lost { (message_at (played_alone loses).kept first_id).known ≡ Some lost }
     ensures waits { (message_at (played_alone (loses ++ Tick 1706659259 all_up ∷ [])).kept first_id).known ≡ Some lost }
+    ensures held_back { (message_at (played_alone (loses ++ Tick 1706659260 none_begin ∷ [])).kept first_id).known ≡ Some lost }
     ensures again { (message_at (played_alone (loses ++ Tick 1706659260 all_up ∷ [])).kept first_id).known ≡ Some tried_again }
 {}
 

@@ -1,6 +1,7 @@
 //! A tick of what is kept, as a step of the actor.
 
 ghost use Rattle.std.specs.Prelude.{ℕ, Bool, List};
+ghost use Rattle.mc_model.specs.node.Reach.{Reach};
 ghost use Rattle.mc_model.specs.message.Ids.{IsNode};
 ghost use Rattle.mc_model.specs.node.Alone.{Node};
 ghost use Rattle.mc_model.specs.node.Input.{Tick};
@@ -15,5 +16,5 @@ ghost use Rattle.node_laws.specs.Steps.{IsAtWork, StepsAs};
 /// of every actor for which what is kept stands, at whatever moment, whoever is up. The node is one of nine at most.
 pub fn a_tick_is_exact()
     ensures { (setup : Setup) (k : Kept) (s : Node) → Stands setup k s → IsAtWork setup s → IsNode setup.node →
-        (moment : ℕ) (up : List ℕ → Bool) → StepsAs setup s (Tick moment up) (stepped setup k (Tick moment up)) }
+        (moment : ℕ) (reach : Reach) → StepsAs setup s (Tick moment reach) (stepped setup k (Tick moment reach)) }
 {}

@@ -8,6 +8,7 @@ use Rattle.mc_model.specs.message.Chain.{attempts_in, taken_in}
 use Rattle.mc_model.specs.synod.Packet.{TopVote}
 use Rattle.mc_model.specs.node.Outcome.{Outcome, decree_of, no_session_error, older_incarnation_error}
 use Rattle.mc_model.specs.node.Setup.{Setup}
+use Rattle.mc_model.specs.node.Reach.{Reach, may_begin}
 use Rattle.mc_model.specs.node.FirstRule.{Announce, Close, Delete, Expire, Follow, GiveUp, Lose, Rule, Take, Try, Undeliver}
 use Rattle.node_model.specs.Acceptor.{told_of}
 use Rattle.node_model.specs.Message.{Message}
@@ -82,7 +83,7 @@ undelivered setup k newest older (Failed error) =
 undelivered setup k newest older (Fate final error) = None
 undelivered setup k newest older Told = None
 
--- 9: the next attempt is due, and its target is up
+-- 9: the next attempt is due and may begin
 abbrev pub tried : Setup → Kept → Submission → Decree → List Decree → Kind → Option Start
 tried setup k taken newest older (Taken message) =
     if nat_le taken.schedule (moment_behind k newest) && nat_lt (moment_behind k newest) taken.expiry
@@ -115,27 +116,27 @@ attempt_rule setup k m up newest older =
 
 -- of a message that waits
 abbrev pub idle_rule : Setup → Kept → ℕ → Submission → Bool → Decree → List Decree → Option Fitting
-idle_rule setup k id taken up newest older =
+idle_rule setup k id taken may newest older =
     option_or (fitting Delete (delete_for setup k id k.held (Some (newest ∷ older))))
     (option_or (fitting Expire (expiring setup k taken newest older))
     (option_or (fitting Undeliver (undelivered setup k newest older newest.kind))
-    (option_or (fitting Try (if_so up (tried setup k taken newest older newest.kind)))
+    (option_or (fitting Try (if_so may (tried setup k taken newest older newest.kind)))
     (fitting Announce (announced setup k taken newest older newest.kind)))))
 
-abbrev pub own_rule : Setup → Kept → (List ℕ → Bool) → ℕ → Decree → List Decree → Option Submission → Option Fitting
-own_rule setup k up id newest older None = None
-own_rule setup k up id newest older (Some taken) =
+abbrev pub own_rule : Setup → Kept → Reach → ℕ → Decree → List Decree → Option Submission → Option Fitting
+own_rule setup k reach id newest older None = None
+own_rule setup k reach id newest older (Some taken) =
     if is_attempt_by setup.node newest newest.kind
-    then attempt_rule setup k (message_at k id) (up taken.target) newest older
-    else idle_rule setup k id taken (up taken.target) newest older
+    then attempt_rule setup k (message_at k id) (reach.up taken.target) newest older
+    else idle_rule setup k id taken (may_begin reach id taken.target) newest older
 
-abbrev pub known_rule : Setup → Kept → (List ℕ → Bool) → ℕ → Option (List Decree) → Option Fitting
-known_rule setup k up id None = None
-known_rule setup k up id (Some []) = None
-known_rule setup k up id (Some (newest ∷ older)) = own_rule setup k up id newest older (taken_in (newest ∷ older))
+abbrev pub known_rule : Setup → Kept → Reach → ℕ → Option (List Decree) → Option Fitting
+known_rule setup k reach id None = None
+known_rule setup k reach id (Some []) = None
+known_rule setup k reach id (Some (newest ∷ older)) = own_rule setup k reach id newest older (taken_in (newest ∷ older))
 
-abbrev pub first_rule : Setup → Kept → (List ℕ → Bool) → ℕ → Option Fitting
-first_rule setup k up id =
+abbrev pub first_rule : Setup → Kept → Reach → ℕ → Option Fitting
+first_rule setup k reach id =
     option_or (fitting Take (taken_for setup k id k.held))
     (option_or (fitting Follow (followed k id))
-    (known_rule setup k up id (message_at k id).known))
+    (known_rule setup k reach id (message_at k id).known))

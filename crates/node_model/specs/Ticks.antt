@@ -10,6 +10,7 @@ use Rattle.mc_model.specs.node.FirstRule.{GiveUp, Rule}
 use Rattle.mc_model.specs.node.Outcome.{Unanswered, no_session_error}
 use Rattle.mc_model.specs.node.Outputs.{Reply}
 use Rattle.mc_model.specs.node.Replies.{TooLate, longest_wait}
+use Rattle.mc_model.specs.node.Reach.{Reach}
 use Rattle.mc_model.specs.node.Setup.{Setup}
 use Rattle.node_model.specs.Message.{Message}
 use Rattle.node_model.specs.Kept.{Held, Kept, message_at, name_at, with_message}
@@ -89,10 +90,10 @@ ruled setup k id (Some fit) = started setup (given_up fit.rule k id (pred fit.st
 abbrev pub and_then : Prepared → Prepared → Prepared
 and_then first others = record { kept = others.kept; packets = first.packets ++ others.packets }
 
-abbrev pub ruled_each : Setup → (List ℕ → Bool) → List ℕ → Kept → Prepared
-ruled_each setup up [] k = record { kept = k; packets = [] }
-ruled_each setup up (id ∷ others) k =
-    let first : Prepared = ruled setup k id (first_rule setup k up id) in and_then first (ruled_each setup up others first.kept)
+abbrev pub ruled_each : Setup → Reach → List ℕ → Kept → Prepared
+ruled_each setup reach [] k = record { kept = k; packets = [] }
+ruled_each setup reach (id ∷ others) k =
+    let first : Prepared = ruled setup k id (first_rule setup k reach id) in and_then first (ruled_each setup reach others first.kept)
 
 abbrev pub asked_again : Setup → Kept → List Packet
 asked_again setup k = map (question setup k) (filter (is_untold setup.nodes) k.held)
@@ -100,9 +101,9 @@ asked_again setup k = map (question setup k) (filter (is_untold setup.nodes) k.h
 abbrev pub rules_then : Setup → Kept → List Reply → Prepared → Stepped
 rules_then setup k late prepared = sends prepared.kept (asked_again setup k ++ prepared.packets) late []
 
-abbrev pub tick_then : Setup → Kept → (List ℕ → Bool) → List Reply → Stepped
-tick_then setup k up late = rules_then setup k late (ruled_each setup up (ids_of k) k)
+abbrev pub tick_then : Setup → Kept → Reach → List Reply → Stepped
+tick_then setup k reach late = rules_then setup k late (ruled_each setup reach (ids_of k) k)
 
-abbrev pub on_tick : Setup → Kept → ℕ → (List ℕ → Bool) → Stepped
-on_tick setup k moment up =
-    tick_then setup (ticked k (max k.clock moment)) up (map late_reply (filter (is_late (max k.clock moment)) k.held))
+abbrev pub on_tick : Setup → Kept → ℕ → Reach → Stepped
+on_tick setup k moment reach =
+    tick_then setup (ticked k (max k.clock moment)) reach (map late_reply (filter (is_late (max k.clock moment)) k.held))

@@ -10,6 +10,7 @@ use Rattle.mc_model.specs.message.Chain.{home_in, taken_in}
 use Rattle.mc_model.specs.synod.Lists.{In}
 use Rattle.mc_model.specs.synod.Packet.{TopVote}
 use Rattle.mc_model.specs.node.FirstRule.{Announce, Delete, Expire, Try, Undeliver}
+use Rattle.mc_model.specs.node.Reach.{Reach, may_begin}
 use Rattle.mc_model.specs.node.Setup.{Setup}
 use Rattle.node_model.specs.Acceptor.{told_of}
 use Rattle.node_model.specs.Answers.{is_asked}
@@ -72,11 +73,11 @@ module _ (setup : Setup) (k : Kept) (id : ℕ) (newest : Decree) (older : List D
         (option_or (fitting Try ((ap (if_so up) over.tried_again ∙ nothing_either up) i))
         (fitting Announce (over.untold i)))))
 
-    own_none : (up : List ℕ → Bool) → own_rule setup k up id newest older (Some taken) ≡ None
-    own_none up =
-        ap (λ (test : Bool). if test then attempt_rule setup k (message_at k id) (up taken.target) newest older
-        else idle_rule setup k id taken (up taken.target) newest older) over.tries
-        ∙ idle_none (up taken.target)
+    own_none : (reach : Reach) → own_rule setup k reach id newest older (Some taken) ≡ None
+    own_none reach =
+        ap (λ (test : Bool). if test then attempt_rule setup k (message_at k id) (reach.up taken.target) newest older
+        else idle_rule setup k id taken (may_begin reach id taken.target) newest older) over.tries
+        ∙ idle_none (may_begin reach id taken.target)
 
   -- no receipt is told of which none was asked for
   none_told : (final : Final) (error : ℕ) → is_asked final taken ≡ false → announced setup k taken newest older (Fate final error) ≡ None
@@ -99,17 +100,17 @@ module _ (setup : Setup) (k : Kept) (id : ℕ) (newest : Decree) (older : List D
   }
   over_by Told last = record { waits = refl; tries = refl; undelivers = refl; tried_again = refl; untold = refl }
 
-none_behind : (setup : Setup) (k : Kept) (up : List ℕ → Bool) (id : ℕ) (newest : Decree) (older : List Decree) (taken : Option Submission) →
-    is_last taken newest.kind ≡ true → own_rule setup k up id newest older taken ≡ None
-none_behind setup k up id newest older None last = refl
-none_behind setup k up id newest older (Some taken) last =
-    own_none setup k id newest older taken (over_by setup k id newest older taken newest.kind last) up
+none_behind : (setup : Setup) (k : Kept) (reach : Reach) (id : ℕ) (newest : Decree) (older : List Decree) (taken : Option Submission) →
+    is_last taken newest.kind ≡ true → own_rule setup k reach id newest older taken ≡ None
+none_behind setup k reach id newest older None last = refl
+none_behind setup k reach id newest older (Some taken) last =
+    own_none setup k id newest older taken (over_by setup k id newest older taken newest.kind last) reach
 
-none_known : (setup : Setup) (k : Kept) (up : List ℕ → Bool) (id : ℕ) (known : Option (List Decree)) → is_known_over known ≡ true →
-    known_rule setup k up id known ≡ None
-none_known setup k up id None over = absurd (true≢false (sym over))
-none_known setup k up id (Some []) over = refl
-none_known setup k up id (Some (newest ∷ older)) over = none_behind setup k up id newest older (taken_in (newest ∷ older)) over
+none_known : (setup : Setup) (k : Kept) (reach : Reach) (id : ℕ) (known : Option (List Decree)) → is_known_over known ≡ true →
+    known_rule setup k reach id known ≡ None
+none_known setup k reach id None over = absurd (true≢false (sym over))
+none_known setup k reach id (Some []) over = refl
+none_known setup k reach id (Some (newest ∷ older)) over = none_behind setup k reach id newest older (taken_in (newest ∷ older)) over
 
 -- ---- no rule fits
 
@@ -117,12 +118,12 @@ nothing : {A : Type 0} (found : Option A) → is_none found ≡ true → None �
 nothing None is = refl
 nothing (Some x) is = absurd (true≢false (sym is))
 
-pub no_rule : (setup : Setup) (k : Kept) (held : List Held) (up : List ℕ → Bool) (id : ℕ) (m : Filed) (s : Standpoint) → IsAtRest setup k held id m s →
-    is_decided id m ≡ true → (In id (ids_in held) → ⊥) → first_rule setup k up id ≡ None
-no_rule setup k held up id m s rest decided unasked =
+pub no_rule : (setup : Setup) (k : Kept) (held : List Held) (reach : Reach) (id : ℕ) (m : Filed) (s : Standpoint) → IsAtRest setup k held id m s →
+    is_decided id m ≡ true → (In id (ids_in held) → ⊥) → first_rule setup k reach id ≡ None
+no_rule setup k held reach id m s rest decided unasked =
     let both = and_parts (is_known_over (message_of id m).known) (is_none (follow (message_of id m).known (told_of (record_at m.acceptor) id))) decided in
     let nothing_shown : None ≡ follow (message_of id m).known (shown_to id held (told_of (record_at m.acceptor) id)) =
     nothing (follow (message_of id m).known (told_of (record_at m.acceptor) id)) both.1
     ∙ ap (follow (message_of id m).known) (sym (none_shown id held (told_of (record_at m.acceptor) id) unasked)) in
-    sym (goes_on setup k held up id m s rest (sym (none_taken setup k id held unasked)) nothing_shown)
-    ∙ none_known setup k up id (message_of id m).known both.0
+    sym (goes_on setup k held reach id m s rest (sym (none_taken setup k id held unasked)) nothing_shown)
+    ∙ none_known setup k reach id (message_of id m).known both.0

@@ -4,6 +4,7 @@ use Rattle.std.specs.Prelude.{◌==◌, filter, is_some, not, if◌then◌else�
 use Rattle.std.proofs.lemmas.Bool.{cases_Bool, eq-eqb, or_right, true≢false}
 use Rattle.std.proofs.lemmas.Bool.Decides.{Decides-eqb, nat_tests}
 use Rattle.mc_model.specs.synod.Lists.{In}
+use Rattle.mc_model.specs.node.Reach.{Reach}
 use Rattle.node_model.proofs.Places.{elsewhere, here}
 use Rattle.fate_chain.specs.declared.decree.Author.{Author}
 use Rattle.delivery.specs.Targets.{is_up}
@@ -16,9 +17,10 @@ use Rattle.node_parts.specs.declared.noted.Noted.{Noted}
 use Rattle.node_parts.specs.Counting.{recounted_in}
 use Rattle.node_parts.specs.Living.{AreListed, IsAsleepBy, IsNextBy, IsSettled, is_decided, is_kept_listed, is_live}
 use Rattle.node_parts.specs.Messages.{rested, rested_entry}
+use Rattle.node_parts.specs.Reaching.{reach_with}
 use Rattle.node_parts.specs.Renewal.{renewed}
 use Rattle.node_parts.specs.Waking.{AreAwake}
-use Rattle.node_parts.specs.Sleeping.{AreNoted, IsDueIn, IsNoted, IsNotedOf, dozed, ids_of, is_due, is_looked_at, is_past, noted_of, sleep_of}
+use Rattle.node_parts.specs.Sleeping.{AreNoted, IsDueIn, IsNoted, IsNotedOf, dozed, ids_of, is_due, is_looked_at, is_past, noted_of, reach_noted, sleep_of}
 use Rattle.node_parts.proofs.Listings.{AreWoken, among_or, mapped_from, mapped_ids, rise_listed, stays_listed, was_listed, with_id}
 use Rattle.node_parts.proofs.Listings as listings
 use Rattle.node_parts.proofs.Living.{listed_visited, rested_settled, visited_from}
@@ -32,11 +34,11 @@ asleep_by : (noted : Option Noted) (id : ℕ) (m : Filed) (until : Option ℕ) (
 asleep_by noted id m None clock is past = absurd (true≢false past)
 asleep_by None id m (Some until) clock is past = absurd is
 asleep_by (Some noted) id m (Some until) clock is past =
-    sleeps_until noted.me (is_up noted.up.items) id m until is (record { author = noted.me; clock = clock }) refl (grind (arith, nat_tests))
+    sleeps_until noted.me (reach_noted noted) id m until is (record { author = noted.me; clock = clock }) refl (grind (arith, nat_tests))
 
 settled_by : (noted : Option Noted) (clock id : ℕ) (m : Filed) → IsSettled id m → IsAsleepBy noted clock id m
 settled_by None clock id m is = tt
-settled_by (Some noted) clock id m is = settled_asleep (record { author = noted.me; clock = clock }) (is_up noted.up.items) id m is
+settled_by (Some noted) clock id m is = settled_asleep (record { author = noted.me; clock = clock }) (reach_noted noted) id m is
 
 module _ (entries : List (ℕ × Filed)) (live : List Listing) (room : ℕ) (noted : Option Noted) (listed : AreListed entries (ids_of live) room)
     (are : AreNoted noted entries live) (clock : ℕ) where
@@ -93,7 +95,7 @@ noted_put noted entries live new id m woken are = record {
 -- ---- a message that is kept is changed
 
 module _ (noted : Option Noted) (entries : List (ℕ × Filed)) (live : List Listing) (id : ℕ) (m to : Filed) (found : value_at entries id ≡ Some m)
-    (keeps : (me : Author) (up : List ℕ → Bool) (until : ℕ) → sleep_of me up id m ≡ Some until → sleep_of me up id to ≡ Some until) where
+    (keeps : (me : Author) (reach : Reach) (until : ℕ) → sleep_of me reach id m ≡ Some until → sleep_of me reach id to ≡ Some until) where
   pub noted_changed : AreNoted noted entries live → AreNoted noted (with_value entries id to) live
   noted_changed are = record {
     each = λ l n among at. elim (cases_Bool (l.id == id)) [
@@ -111,9 +113,9 @@ module _ (noted : Option Noted) (entries : List (ℕ × Filed)) (live : List Lis
     ];
   }
 
-pub recounted_keeps : (id : ℕ) (m : Filed) (r : Recount) (me : Author) (up : List ℕ → Bool) (until : ℕ) → sleep_of me up id m ≡ Some until →
-    sleep_of me up id (recounted_in m r) ≡ Some until
-recounted_keeps id m r me up until is = is
+pub recounted_keeps : (id : ℕ) (m : Filed) (r : Recount) (me : Author) (reach : Reach) (until : ℕ) → sleep_of me reach id m ≡ Some until →
+    sleep_of me reach id (recounted_in m r) ≡ Some until
+recounted_keeps id m r me reach until is = is
 
 -- ---- each is visited
 
@@ -122,7 +124,7 @@ module _ (f : Filed → Filed) (noted : Option Noted) (entries : List (ℕ × Fi
   Visited = map (λ (entry : ℕ × Filed). (entry.0, f entry.1)) entries
 
   pub noted_visited : (live : List Listing) →
-      ((id : ℕ) (m : Filed) (me : Author) (up : List ℕ → Bool) (until : ℕ) → sleep_of me up id m ≡ Some until → sleep_of me up id (f m) ≡ Some until) →
+      ((id : ℕ) (m : Filed) (me : Author) (reach : Reach) (until : ℕ) → sleep_of me reach id m ≡ Some until → sleep_of me reach id (f m) ≡ Some until) →
       AreNoted noted entries live → AreNoted noted Visited live
   noted_visited live keeps are = record {
     each = λ l n among found.
@@ -131,13 +133,13 @@ module _ (f : Filed → Filed) (noted : Option Noted) (entries : List (ℕ × Fi
         (noted_still l.id was.0 (f was.0) (keeps l.id was.0) noted l.until (are.each l was.0 among was.1));
   }
 
-pub renewed_keeps : (by : Author) (id : ℕ) (m : Filed) (me : Author) (up : List ℕ → Bool) (until : ℕ) → sleep_of me up id m ≡ Some until →
-    sleep_of me up id (renewed by m) ≡ Some until
-renewed_keeps by id m me up until is = is
+pub renewed_keeps : (by : Author) (id : ℕ) (m : Filed) (me : Author) (reach : Reach) (until : ℕ) → sleep_of me reach id m ≡ Some until →
+    sleep_of me reach id (renewed by m) ≡ Some until
+renewed_keeps by id m me reach until is = is
 
-pub rested_keeps : (id : ℕ) (m : Filed) (me : Author) (up : List ℕ → Bool) (until : ℕ) → sleep_of me up id m ≡ Some until →
-    sleep_of me up id (rested m) ≡ Some until
-rested_keeps id m me up until is = (sleeps_without me up id m until is).1
+pub rested_keeps : (id : ℕ) (m : Filed) (me : Author) (reach : Reach) (until : ℕ) → sleep_of me reach id m ≡ Some until →
+    sleep_of me reach id (rested m) ≡ Some until
+rested_keeps id m me reach until is = (sleeps_without me reach id m until is).1
 
 -- ---- all rest, and those that are awake and decided are taken off the list
 
@@ -171,55 +173,53 @@ left_rested entries live room listed =
 
 -- ---- each that is due is looked at
 
-looked_at : (me : Author) (up : List (List ℕ)) (held : Noted) → held.me ≡ me → held.up.items ≡ up → (id : ℕ) (m : Filed) (until : Option ℕ) →
-    until ≡ sleep_of me (is_up up) id m → IsNotedOf (Some held) id m until
-looked_at me up held by accounts id m None is = tt
-looked_at me up held by accounts id m (Some until) is =
-    (λ i. sleep_of (by i) (is_up (accounts i)) id m) ∙ sym is
+looked_at : (me : Author) (reach : Reach) (held : Noted) → held.me ≡ me → reach_noted held ≡ reach → (id : ℕ) (m : Filed) (until : Option ℕ) →
+    until ≡ sleep_of me reach id m → IsNotedOf (Some held) id m until
+looked_at me reach held by reaches id m None is = tt
+looked_at me reach held by reaches id m (Some until) is = (λ i. sleep_of (by i) (reaches i) id m) ∙ sym is
 
-module _ (old : Option Noted) (held : Noted) (me : Author) (up : List (List ℕ)) (by : held.me ≡ me) (accounts : held.up.items ≡ up)
-    (clock : Option ℕ) (known : (at : ℕ) → clock ≡ Some at → IsNoted old me up) (entries : List (ℕ × Filed)) where
-  noted_again : (o : Option Noted) → IsNoted o me up → (id : ℕ) (m : Filed) (until : Option ℕ) → IsNotedOf o id m until → IsNotedOf (Some held) id m until
+module _ (old : Option Noted) (held : Noted) (clock : Option ℕ) (known : (at : ℕ) → clock ≡ Some at → IsNoted old held.me held.up.items held.tries)
+    (entries : List (ℕ × Filed)) where
+  abbrev Here : Reach
+  Here = reach_noted held
+
+  noted_again : (o : Option Noted) → IsNoted o held.me held.up.items held.tries → (id : ℕ) (m : Filed) (until : Option ℕ) → IsNotedOf o id m until →
+      IsNotedOf (Some held) id m until
   noted_again None same id m until is = absurd same
   noted_again (Some was) same id m None is = tt
   noted_again (Some was) same id m (Some until) is =
-      (λ i. sleep_of ((by ∙ sym same.0) i) (is_up ((accounts ∙ sym same.1) i)) id m) ∙ is
+      (λ i. sleep_of (sym same.0 i) (reach_with (is_up (sym same.1.0 i)) (sym same.1.1 i)) id m) ∙ is
 
-  pub noted_dozed : (live : List Listing) → AreNoted old entries live → AreNoted (Some held) entries (map (dozed entries me (is_up up) clock) live)
+  pub noted_dozed : (live : List Listing) → AreNoted old entries live → AreNoted (Some held) entries (map (dozed entries held.me Here clock) live)
   noted_dozed live are = record {
     each = λ l m among found.
-        let from = mapped_from (dozed entries me (is_up up) clock) live l among in
+        let from = mapped_from (dozed entries held.me Here clock) live l among in
         subst (λ (it : Listing). IsNotedOf (Some held) it.id m it.until) from.2
         (by_look from.0 m from.1 (subst (λ (it : Listing). value_at entries it.id ≡ Some m) (sym from.2) found) clock refl);
   }
     where
       by_test : (x : Listing) (m : Filed) → value_at entries x.id ≡ Some m → (looks : Bool) → (looks ≡ false → IsNotedOf (Some held) x.id m x.until) →
-          IsNotedOf (Some held) x.id m (if looks then noted_of me (is_up up) x.id (value_at entries x.id) else x.until)
-      by_test x m found true rest = looked_at me up held by accounts x.id m _ (ap (noted_of me (is_up up) x.id) found)
+          IsNotedOf (Some held) x.id m (if looks then noted_of held.me Here x.id (value_at entries x.id) else x.until)
+      by_test x m found true rest = looked_at held.me Here held refl refl x.id m _ (ap (noted_of held.me Here x.id) found)
       by_test x m found false rest = rest refl
 
       by_look : (x : Listing) (m : Filed) → In x live → value_at entries x.id ≡ Some m → (at : Option ℕ) → clock ≡ at →
-          IsNotedOf (Some held) x.id m (if is_looked_at at x then noted_of me (is_up up) x.id (value_at entries x.id) else x.until)
-      by_look x m among found None is = looked_at me up held by accounts x.id m _ (ap (noted_of me (is_up up) x.id) found)
+          IsNotedOf (Some held) x.id m (if is_looked_at at x then noted_of held.me Here x.id (value_at entries x.id) else x.until)
+      by_look x m among found None is = looked_at held.me Here held refl refl x.id m _ (ap (noted_of held.me Here x.id) found)
       by_look x m among found (Some at) is =
           by_test x m found (is_due at x) (λ sleeps. noted_again old (known at is) x.id m x.until (are.each x m among found))
 
-  pub dozed_ids : (live : List Listing) → ids_of (map (dozed entries me (is_up up) clock) live) ≡ ids_of live
-  dozed_ids live = mapped_ids (dozed entries me (is_up up) clock) (λ l. refl) live
+  pub dozed_ids : (live : List Listing) → ids_of (map (dozed entries held.me Here clock) live) ≡ ids_of live
+  dozed_ids live = mapped_ids (dozed entries held.me Here clock) (λ l. refl) live
 
 -- the shelf keeps what it has to keep
 pub shelf_dozed : (old : Option Noted) (held : Noted) (entries : List (ℕ × Filed)) (live new : List Listing) (ids : List ℕ) (room more until : ℕ)
     (clock : Option ℕ) →
-    ((at : ℕ) → clock ≡ Some at → IsNoted old held.me held.up.items) → new ≡ map (dozed entries held.me (is_up held.up.items) clock) live → more ≡ room →
-    AreAwake until new ids → AreListed entries (ids_of live) room → AreNoted old entries live →
+    ((at : ℕ) → clock ≡ Some at → IsNoted old held.me held.up.items held.tries) → new ≡ map (dozed entries held.me (reach_noted held) clock) live →
+    more ≡ room → AreAwake until new ids → AreListed entries (ids_of live) room → AreNoted old entries live →
     AreListed entries (ids_of new) more × (AreNoted (Some held) entries new × AreAwake until new ids)
 shelf_dozed old held entries live new ids room more until clock known is same awake listed are = (
   subst (λ (n : ℕ). AreListed entries (ids_of new) n) (sym same)
-      (subst (λ (ls : List ℕ). AreListed entries ls room)
-      (sym (ap ids_of is ∙ dozed_ids old held held.me held.up.items refl refl clock known entries live)) listed),
-  (
-    subst (λ (ls : List Listing). AreNoted (Some held) entries ls) (sym is)
-        (noted_dozed old held held.me held.up.items refl refl clock known entries live are),
-    awake,
-  ),
+      (subst (λ (ls : List ℕ). AreListed entries ls room) (sym (ap ids_of is ∙ dozed_ids old held clock known entries live)) listed),
+  (subst (λ (ls : List Listing). AreNoted (Some held) entries ls) (sym is) (noted_dozed old held clock known entries live are), awake),
 )

@@ -15,9 +15,10 @@ use Rattle.shelf.specs.Shelved.{value_at, with_value}
 use Rattle.node_parts.specs.declared.listing.Listing.{Listing}
 use Rattle.node_parts.specs.declared.message.Message.{Message as Filed}
 use Rattle.node_parts.specs.declared.noted.Noted.{Noted}
-use Rattle.node_parts.specs.Living.{AreListed, AreRising, dropped, dropped_at, dropped_of}
+use Rattle.node_parts.specs.Living.{AreListed, dropped, dropped_at, dropped_of}
+use Rattle.node_parts.specs.Rising.{AreRising}
 use Rattle.node_parts.specs.Messages.{rested, rested_entry}
-use Rattle.node_parts.specs.Sleeping.{AreNoted, IsNotedOf, ids_of}
+use Rattle.node_parts.specs.Sleeping.{AreNoted, IsNotedOf, ids_of, reach_noted}
 use Rattle.node_parts.specs.Waking.{AreAwake}
 use Rattle.node_parts.proofs.Living.{keys_put, listed_key}
 use Rattle.node_parts.proofs.Listings.{among_or}
@@ -137,7 +138,7 @@ runs_among entries live ids room until noted listed are awake id m found = elim 
   where
     by_noted : (of : Option Noted) (u : ℕ) → IsNotedOf of id m (Some u) → m.proposer.round ≡ None
     by_noted None u is = absurd is
-    by_noted (Some of) u is = (sleeps_without of.me _ id m u is).0
+    by_noted (Some of) u is = (sleeps_without of.me (reach_noted of) id m u is).0
 
     by_until : (l : Listing) → In l live → l.id ≡ id → (moment : Option ℕ) → l.until ≡ moment → (m.proposer.round ≡ None) ⊎ In id ids
     by_until l among named None is = inr (subst (λ (n : ℕ). In n ids) named (awake.each l among is))

@@ -11,7 +11,7 @@ use Rattle.std.proofs.lemmas.Bool.Decides.{nat_tests}
 use Rattle.std.proofs.lemmas.Cmp.{ranked}
 use Rattle.mc_model.specs.synod.Lists.{In}
 use Rattle.waiting_requests.specs.Numbers.{IsLeastFrom}
-use Rattle.node_parts.specs.Living.{AreRising, IsCut, IsPlaceOf}
+use Rattle.node_parts.specs.Rising.{AreRising, IsCut, IsPlaceOf}
 use Rattle.node_parts.proofs.Rising.{each}
 
 -- ---- one after another

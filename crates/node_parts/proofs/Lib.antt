@@ -9,7 +9,7 @@ pub mod Rising
 pub mod IdLists
 pub mod Living
 pub mod Counting
-pub mod Accounts
+pub mod Naming
 pub mod Sleeping
 pub mod Listings
 pub mod Waking

@@ -13,7 +13,7 @@ use Rattle.mc_model.specs.synod.Lists.{In}
 use Rattle.waiting_requests.specs.Numbers.{IsLeastFrom}
 use Rattle.shelf.proofs.Visited.{changed_length, changed_to, next_is, one_more}
 use Rattle.node_parts.specs.declared.listing.Listing.{Listing}
-use Rattle.node_parts.specs.Living.{AreRising, IsCut, IsPlaceOf}
+use Rattle.node_parts.specs.Rising.{AreRising, IsCut, IsPlaceOf}
 use Rattle.node_parts.specs.Sleeping.{IsDueIn, ids_of, is_due}
 use Rattle.node_parts.proofs.IdLists.{searched, tail_cut}
 use Rattle.node_parts.proofs.Rising.{each}
@@ -288,11 +288,11 @@ pub mapped_ids : (f : Listing → Listing) → ((l : Listing) → (f l).id ≡ l
 mapped_ids f same [] = refl
 mapped_ids f same (x ∷ xs) = λ i. same x i ∷ mapped_ids f same xs i
 
-take_all : (n : ℕ) (live : List Listing) → length live ≤ n → take n live ≡ live
+pub take_all : {A : Type 0} (n : ℕ) (items : List A) → length items ≤ n → take n items ≡ items
 take_all zero [] most = refl
 take_all zero (x ∷ xs) most = absurd (omega (arith, most))
 take_all (suc n) [] most = refl
-take_all (suc n) (x ∷ xs) most = ap (λ (ls : List Listing). x ∷ ls) (take_all n xs (omega (arith, most)))
+take_all (suc n) (x ∷ xs) most = ap (λ (ys : List _). x ∷ ys) (take_all n xs (omega (arith, most)))
 
 pub first_behind : (clock from : ℕ) (live : List Listing) (place : ℕ) (found : Option ℕ) → AreRising (ids_of live) → IsCut (ids_of live) from place →
     found ≡ option_map (λ (l : Listing). l.id) (find (is_due clock) (take (length live - place) (drop place live))) →

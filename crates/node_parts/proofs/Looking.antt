@@ -7,11 +7,12 @@ use Rattle.std.specs.Option.{is_none}
 use Rattle.std.proofs.lemmas.Bool.{cases_Bool, eq-eqb}
 use Rattle.std.proofs.lemmas.Bool.Decides.{Decides-eqb}
 use Rattle.mc_model.specs.synod.Lists.{In}
+use Rattle.mc_model.specs.node.Reach.{Reach}
 use Rattle.fate_chain.specs.declared.decree.Author.{Author}
 use Rattle.shelf.specs.Shelved.{value_at}
 use Rattle.node_parts.specs.declared.listing.Listing.{Listing}
 use Rattle.node_parts.specs.declared.message.Message.{Message as Filed}
-use Rattle.node_parts.specs.Living.{AreRising, IsPlaceOf}
+use Rattle.node_parts.specs.Rising.{AreRising, IsPlaceOf}
 use Rattle.node_parts.specs.Sleeping.{dozed, ids_of, is_due, is_past, noted_of}
 use Rattle.node_parts.specs.Waking.{AreAwake, all_looked_at, looked_at, soonest_at, until_at}
 use Rattle.node_parts.proofs.Listings.{mapped_ids}
@@ -20,7 +21,7 @@ use Rattle.node_parts.proofs.Waking.{all_looked, asleep_late, asleep_stay, awake
 
 -- ---- where it stands
 
-at_in : (ids : List ℕ) (place id : ℕ) → slice_get ids place ≡ Some id → In id ids
+pub at_in : (ids : List ℕ) (place id : ℕ) → slice_get ids place ≡ Some id → In id ids
 at_in [] place id at = absurd (cc)
 at_in (x ∷ xs) zero id at = inl (let same : id ≡ x = cc in same)
 at_in (x ∷ xs) (suc place) id at = inr (at_in xs place id at)
@@ -94,14 +95,14 @@ either_way : (test : Bool) (moment : Option ℕ) → (if test then moment else m
 either_way true moment = refl
 either_way false moment = refl
 
-module _ (entries : List (ℕ × Filed)) (me : Author) (up : List ℕ → Bool) (clock : ℕ) (l : Listing) where
+module _ (entries : List (ℕ × Filed)) (me : Author) (reach : Reach) (clock : ℕ) (l : Listing) where
   abbrev Then : Option ℕ
-  Then = noted_of me up l.id (value_at entries l.id)
+  Then = noted_of me reach l.id (value_at entries l.id)
 
   abbrev With : Option ℕ → Listing
   With moment = record l { until = moment }
 
-  pub dozed_again : dozed entries me up (Some clock) (dozed entries me up (Some clock) l) ≡ dozed entries me up (Some clock) l
+  pub dozed_again : dozed entries me reach (Some clock) (dozed entries me reach (Some clock) l) ≡ dozed entries me reach (Some clock) l
   dozed_again = by_test (is_due clock l) refl
     where
       by_test : (is : Bool) → is_due clock l ≡ is →
@@ -109,24 +110,24 @@ module _ (entries : List (ℕ × Filed)) (me : Author) (up : List ℕ → Bool) 
       by_test true at = ap With (either_way (is_past clock Then) Then)
       by_test false at = ap (λ (test : Bool). With (if test then Then else l.until)) at
 
-  pub dozes_on : (until moment : ℕ) → clock < until → until ≤ moment → l.until ≡ Some moment → dozed entries me up (Some clock) l ≡ l
+  pub dozes_on : (until moment : ℕ) → clock < until → until ≤ moment → l.until ≡ Some moment → dozed entries me reach (Some clock) l ≡ l
   dozes_on until moment before late sleeps =
       let at : is_due clock l ≡ false = ap (is_past clock) sleeps ∙ asleep_late until clock moment before late in
       ap (λ (test : Bool). With (if test then Then else l.until)) at
 
 -- ---- those that are awake are looked at, before another one wakes
 
-module _ (entries : List (ℕ × Filed)) (me : Author) (up : List ℕ → Bool) (clock until : ℕ) (live : List Listing) (ids : List ℕ)
+module _ (entries : List (ℕ × Filed)) (me : Author) (reach : Reach) (clock until : ℕ) (live : List Listing) (ids : List ℕ)
     (rise : AreRising (ids_of live)) (are : AreAwake until live ids) (before : clock < until) where
   abbrev Look : Listing → Listing
-  Look = dozed entries me up (Some clock)
+  Look = dozed entries me reach (Some clock)
 
   sleep : (l : Listing) (moment : ℕ) → until ≤ moment → l.until ≡ Some moment → Look l ≡ l
-  sleep l moment late sleeps = dozes_on entries me up clock l until moment before late sleeps
+  sleep l moment late sleeps = dozes_on entries me reach clock l until moment before late sleeps
 
   -- all are as if each was looked at
   pub all_dozed : all_looked_at Look ids live ≡ map Look live
-  all_dozed = all_looked Look (dozed_again entries me up clock) ids live (λ l. refl) (asleep_stay Look (λ l. refl) until live ids rise are sleep)
+  all_dozed = all_looked Look (dozed_again entries me reach clock) ids live (λ l. refl) (asleep_stay Look (λ l. refl) until live ids rise are sleep)
 
   pub rise_dozed : AreRising (ids_of (map Look live))
   rise_dozed = subst AreRising (sym (mapped_ids Look (λ l. refl) live)) rise

@@ -9,7 +9,7 @@ use Rattle.std.specs.declared.cmp.Ordering.{Ordering}
 use Rattle.std.specs.declared.cmp.Ordering.TheVariants.{Less, Equal, Greater}
 use Rattle.std.proofs.lemmas.Bool.Decides.{nat_tests}
 use Rattle.mc_model.specs.synod.Lists.{In}
-use Rattle.node_parts.specs.Living.{AreRising}
+use Rattle.node_parts.specs.Rising.{AreRising}
 
 -- ---- numbers that rise
 

@@ -6,6 +6,7 @@ use Rattle.mc_model.specs.synod.Ballot.{ballot_of}
 use Rattle.mc_model.specs.synod.Packet.{Packet, Prepare, Slot, slot_at, slot_of}
 use Rattle.mc_model.specs.node.FirstRule.{Announce, Close, Delete, Expire, Follow, GiveUp, Lose, Rule, Take, Try, Undeliver}
 use Rattle.mc_model.specs.node.Outcome.{Unanswered, no_session_error}
+use Rattle.mc_model.specs.node.Reach.{Reach}
 use Rattle.mc_model.specs.node.Setup.{Setup}
 use Rattle.node_model.specs.Kept.{Held, Kept, message_at, with_message}
 use Rattle.node_model.specs.Message.{Message}
@@ -188,7 +189,7 @@ module _ (setup : Setup) (k : Kept) (id : ℕ) (old : Filed) (s : Standpoint) (h
         by_test false sent = refl
 
 -- the ruling of the code is that of the model
-pub ruling_is : (setup : Setup) (k : Kept) (up : List ℕ → Bool) (id : ℕ) (ruling : Option Ruling) (made : Prepared) →
-    option_map ruled_as ruling ≡ option_map ruled_by (first_rule setup k up id) → made ≡ ruled_with setup k id (option_map ruled_as ruling) →
-    made ≡ ruled setup k id (first_rule setup k up id)
-ruling_is setup k up id ruling made same is = is ∙ ap (ruled_with setup k id) same ∙ sym (ruled_is setup k id (first_rule setup k up id))
+pub ruling_is : (setup : Setup) (k : Kept) (reach : Reach) (id : ℕ) (ruling : Option Ruling) (made : Prepared) →
+    option_map ruled_as ruling ≡ option_map ruled_by (first_rule setup k reach id) → made ≡ ruled_with setup k id (option_map ruled_as ruling) →
+    made ≡ ruled setup k id (first_rule setup k reach id)
+ruling_is setup k reach id ruling made same is = is ∙ ap (ruled_with setup k id) same ∙ sym (ruled_is setup k id (first_rule setup k reach id))

@@ -11,7 +11,8 @@ use Rattle.mc_model.specs.synod.Lists.{In}
 use Rattle.node_model.proofs.Filters.{filter_passes}
 use Rattle.node_parts.specs.declared.listing.Listing.{Listing}
 use Rattle.node_parts.specs.declared.message.Message.{Message as Filed}
-use Rattle.node_parts.specs.Living.{AreRising, is_kept_listed, is_live_in}
+use Rattle.node_parts.specs.Living.{is_kept_listed, is_live_in}
+use Rattle.node_parts.specs.Rising.{AreRising}
 use Rattle.node_parts.specs.Sleeping.{IsDueIn, ids_of, is_past}
 use Rattle.node_parts.specs.Waking.{AreAwake, all_looked_at, awake_in, is_awake, looked_at, sooner, soonest_at, soonest_in, until_at}
 use Rattle.node_parts.proofs.IdLists.{no_more, rise_still, stays_in, was_in}

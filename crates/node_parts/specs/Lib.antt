@@ -9,6 +9,8 @@ pub mod Counting
 pub mod Renewal
 pub mod Told
 pub mod Turning
+pub mod Rising
+pub mod Reaching
 pub mod Sleeping
 pub mod Living
 pub mod Waking

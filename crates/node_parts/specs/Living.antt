@@ -1,10 +1,7 @@
 -- Which messages of a node are live (own).
-use Rattle.std.specs.Prelude.{◌≡◌, ℕ, ◌<◌, ◌≤◌, Bool, true, false, ◌&&◌, ◌||◌, not, is_some, List, [], ◌∷◌, length, get_or, Option, Some, None, Result, Ok, Err}
-use Rattle.std.specs.BTreeSet.{insert_key}
-use Rattle.std.specs.List.{AllByRecursion, insert, slice_get}
+use Rattle.std.specs.Prelude.{◌≡◌, ℕ, ◌<◌, ◌≤◌, Bool, true, false, ◌&&◌, ◌||◌, not, is_some, List, [], ◌∷◌, length, nat_lt, Option, Some, None, if◌then◌else◌}
 use Rattle.std.specs.Map.{keys_of}
 use Rattle.std.specs.Option.{is_none}
-use Rattle.std.specs.Ordering.{nat_cmp}
 use Rattle.mc_model.specs.message.Submission.{Submission}
 use Rattle.mc_model.specs.message.Decree.{Attempt, Decree, Failed, Fate, Final, Kind, Taken, Told}
 use Rattle.mc_model.specs.message.Chain.{taken_in}
@@ -12,14 +9,16 @@ use Rattle.mc_model.specs.synod.Lists.{In}
 use Rattle.node_model.specs.Acceptor.{told_of}
 use Rattle.node_model.specs.Answers.{is_asked}
 use Rattle.node_model.specs.Starts.{follow}
-use Rattle.delivery.specs.Targets.{is_up}
 use Rattle.shelf.specs.Shelved.{value_at, with_value}
 use Rattle.synod_acceptor.specs.Records.{record_at}
+use Rattle.node_parts.specs.declared.may_begin.MayBegin.{MayBegin}
 use Rattle.node_parts.specs.declared.listing.Listing.{Listing}
 use Rattle.node_parts.specs.declared.message.Message.{Message as Filed}
 use Rattle.node_parts.specs.declared.noted.Noted.{Noted}
 use Rattle.node_parts.specs.Messages.{message_of, rested}
-use Rattle.node_parts.specs.Sleeping.{IsAsleep}
+use Rattle.node_parts.specs.Reaching.{named_in}
+use Rattle.node_parts.specs.Rising.{AreRising}
+use Rattle.node_parts.specs.Sleeping.{IsAsleep, reach_noted}
 
 -- nothing may follow a decree: it tells the receipt, or is a final state of which none was asked for (5.2.17)
 abbrev pub is_unasked : Final → Option Submission → Bool
@@ -53,10 +52,6 @@ pub record IsSettled (id : ℕ) (m : Filed) : Type 0 where
 
 -- ---- the list of those that are live
 
-abbrev pub AreRising : List ℕ → Type 0
-AreRising [] = Unit {0}
-AreRising (id ∷ others) = AllByRecursion (λ (other : ℕ). id < other) others × AreRising others
-
 -- the messages that are kept, for how many more there is room, for how many more there is room to list them, and for whom it is noted until
 -- when they sleep
 pub record Listed : Type 0 where
@@ -84,17 +79,6 @@ is_live_in entries id = is_live id (value_at entries id)
 abbrev pub is_kept_listed : List (ℕ × Filed) → Listing → Bool
 is_kept_listed entries l = is_some l.until || is_live_in entries l.id
 
--- all before a place are lower than an id, and the others are not
-pub record IsCut (ids : List ℕ) (id place : ℕ) : Type 0 where
-  pub within : place ≤ length ids
-  pub before : (other d : ℕ) → other < place → get_or ids other d < id
-  pub behind : (other d : ℕ) → place ≤ other → other < length ids → id ≤ get_or ids other d
-
--- where an id stands among others, or would go
-abbrev pub IsPlaceOf : List ℕ → ℕ → Result ℕ ℕ → Type 0
-IsPlaceOf ids id (Ok place) = (insert_key nat_cmp ids id ≡ ids) × ((slice_get ids place ≡ Some id) × IsCut ids id place)
-IsPlaceOf ids id (Err place) = (insert_key nat_cmp ids id ≡ insert ids place id) × IsCut ids id place
-
 -- from a number on all messages that are kept before this one are so; all are, if there is none
 abbrev pub IsNextBy : (ℕ → Filed → Type 0) → List (ℕ × Filed) → ℕ → Option ℕ → Type 0
 IsNextBy IsSo entries from None = (id : ℕ) (m : Filed) → value_at entries id ≡ Some m → from ≤ id → IsSo id m
@@ -109,11 +93,25 @@ IsNextLive entries from next = IsNextBy IsSettled entries from next
 -- a tick passes them by: they are settled, or if it has the accounts of which it is noted, and a clock, they are asleep by what is noted
 abbrev pub IsAsleepBy : Option Noted → ℕ → ℕ → Filed → Type 0
 IsAsleepBy None clock id m = Unit {0}
-IsAsleepBy (Some noted) clock id m = IsAsleep (record { author = noted.me; clock = clock }) (is_up noted.up.items) id m
+IsAsleepBy (Some noted) clock id m = IsAsleep (record { author = noted.me; clock = clock }) (reach_noted noted) id m
 
 abbrev pub IsPassedBy : Listed → Option ℕ → ℕ → Filed → Type 0
 IsPassedBy kept None id m = IsSettled id m
 IsPassedBy kept (Some clock) id m = IsAsleepBy kept.noted clock id m
+
+-- and no attempt of it may begin, unless of all
+abbrev pub IsPassedIn : Listed → Option ℕ → MayBegin → ℕ → Filed → Type 0
+IsPassedIn kept asleep may id m = IsPassedBy kept asleep id m × (In id (named_in may) → ⊥)
+
+-- a message of an id is kept
+abbrev pub is_kept_in : List (ℕ × Filed) → ℕ → Bool
+is_kept_in entries id = is_some (value_at entries id)
+
+-- the lower of two ids, if there are two
+abbrev pub lower_of : Option ℕ → Option ℕ → Option ℕ
+lower_of None other = other
+lower_of (Some one) None = Some one
+lower_of (Some one) (Some other) = if nat_lt other one then Some other else Some one
 
 -- ---- the rounds of those that are awake end
 

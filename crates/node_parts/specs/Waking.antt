@@ -3,7 +3,7 @@ use Rattle.std.specs.Prelude.{◌≡◌, ℕ, ◌≤◌, Bool, ◌==◌, min, fi
 use Rattle.std.specs.Option.{is_none}
 use Rattle.mc_model.specs.synod.Lists.{In}
 use Rattle.node_parts.specs.declared.listing.Listing.{Listing}
-use Rattle.node_parts.specs.Living.{AreRising}
+use Rattle.node_parts.specs.Rising.{AreRising}
 use Rattle.node_parts.specs.Sleeping.{ids_of}
 
 -- the ids of those on the list that are awake, ascending, and a moment before which no other one wakes

@@ -7,7 +7,7 @@ ghost use Rattle.std.specs.Ordering.{nat_cmp};
 ghost use Rattle.std.specs.Vec.{vec_capacity};
 ghost use Rattle.mc_model.specs.synod.Lists.{In};
 ghost use Rattle.waiting_requests.specs.Numbers.{IsLeastFrom};
-ghost use Rattle.node_parts.specs.Living.{AreRising, IsPlaceOf};
+ghost use Rattle.node_parts.specs.Rising.{AreRising, IsPlaceOf};
 
 use mc_types::{Moment, MsgId};
 
@@ -19,7 +19,7 @@ pub(crate) struct Awake {
 }
 
 /// Where an id stands among ids that ascend, or where it would go.
-fn place_of(ids: &[MsgId], id: u64) -> Result<usize, usize>
+pub(crate) fn place_of(ids: &[MsgId], id: u64) -> Result<usize, usize>
     requires { AreRising ids.now }
     ensures { IsPlaceOf ids.now id result }
 {

@@ -1,16 +1,23 @@
-//! Whether what steps give out is the same.
+//! Whether what steps take and give out is the same.
 
 ghost use Rattle.std.specs.Prelude.{◌≡◌, ◌↔◌, IsTrue};
 
 use fate_chain::Chain;
+use mc_types::MsgId;
 use synod_acceptor::Packet;
 use waiting_requests::Reply;
 
-/// What steps give out, each of which tells whether another is the same.
+/// What steps take and give out, each of which tells whether another is the same.
 pub trait Comparable {
     /// Whether it is the same as the other. It takes no memory.
     fn is_same(&self, other: &Self) -> bool
         ensures { IsTrue result ↔ (self.now ≡ other.now) };
+}
+
+impl Comparable for MsgId {
+    fn is_same(&self, other: &MsgId) -> bool {
+        self == other
+    }
 }
 
 impl Comparable for Packet {

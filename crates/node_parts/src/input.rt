@@ -4,6 +4,7 @@ ghost use Rattle.std.specs.Prelude.{◌≡◌};
 ghost use Rattle.node_model.specs.Stepped.{sender_of};
 ghost use Rattle.synod_acceptor.specs.Packets.{packet_of};
 
+use crate::reach::Reach;
 use delivery::Outcome;
 use desk::Request;
 use mc_types::{Moment, MsgId, NodeNo, Slot};
@@ -21,8 +22,8 @@ pub enum Input {
     Grant(MsgId),
     /// What came of the attempt in a slot.
     Answered(Slot, Outcome),
-    /// Time passes: the moment, and the accounts of which a session may receive.
-    Tick(Moment, Vec<SystemId>),
+    /// Time passes: the moment, with the accounts of which a session may receive, and the messages of which an attempt may begin.
+    Tick(Moment, Reach),
 }
 
 /// The node that sent a packet, as the packet says.

@@ -32,6 +32,7 @@ ghost use Rattle.node_parts.specs.Turning.{IsAtRest, IsOfTurn, gives_up, ruled_a
 ghost use Rattle.node_parts.specs.Messages.{IsConcluded, IsHeard, IsJudged, IsOf, IsPromised, IsRefused, IsStarted, IsStartedFor};
 ghost use Rattle.node_parts.specs.Messages.{IsTriedSo, changed_by, closed_at, granted_at, message_of, rested};
 ghost use Rattle.node_parts.specs.Living.{is_decided, is_over};
+ghost use Rattle.node_parts.specs.Reaching.{reach_of, reach_with};
 ghost use Rattle.node_parts.specs.Sleeping.{IsAsleep, sleep_of};
 ghost use Rattle.node_parts.specs.Renewal.{renewed};
 ghost use Rattle.waiting_requests.specs.Queues.{timely};
@@ -40,6 +41,7 @@ ghost use Rattle.node_parts.specs.Told.{AreToldOf};
 
 use crate::attempts::Attempts;
 use crate::grant_refusal::GrantRefusal;
+use crate::reach::{Reach, reached_with};
 use crate::ruling::Ruling;
 use crate::turn::Turn;
 use delivery::Outcome;
@@ -188,11 +190,12 @@ impl Message {
         }
     }
 
-    /// The moment before which no rule of a tick of this author fits the message of this id, with these accounts of which a session may receive, while no
-    /// request asks of it; the greatest, if none ever does. None if one fits now, or if a round of it runs. It takes no memory.
-    pub fn until(&self, id: MsgId, me: &Author, up: &[SystemId]) -> Option<Moment>
-        ensures until { result ≡ sleep_of me.now (is_up up.now) id self.now }
-        ensures asleep { IfSome result (λ until. (s : StandpointValue) → s.author ≡ me.now → s.clock < until → IsAsleep s (is_up up.now) id self.now) }
+    /// The moment before which no rule of a tick of this author fits the message of this id, with these accounts of which a session may receive, and if an
+    /// attempt may begin or not, while no request asks of it; the greatest, if none ever does. None if one fits now, or if a round of it runs. It takes no
+    /// memory.
+    pub fn until(&self, id: MsgId, me: &Author, up: &[SystemId], tries: bool) -> Option<Moment>
+        ensures until { result ≡ sleep_of me.now (reach_with (is_up up.now) tries) id self.now }
+        ensures asleep { IfSome result (λ until. (s : StandpointValue) → s.author ≡ me.now → s.clock < until → IsAsleep s (reach_with (is_up up.now) tries) id self.now) }
     {
         let known = self.learner.known(id);
         if self.proposer.running().is_some() || follow(known, self.acceptor.tell(id)).is_some() {
@@ -201,7 +204,8 @@ impl Message {
         match known {
             Some(chain) => {
                 chain.bounds();
-                until_due(*me, chain, self.attempts.at(chain.place()), up)
+                let reached = reached_with(up, tries, chain.submission());
+                until_due(*me, chain, self.attempts.at(chain.place()), reached)
             }
             None => Some(Moment::least().later(u32::MAX)),
         }
@@ -329,8 +333,8 @@ impl Message {
         }
     }
 
-    /// What a tick makes of the message of this id, if it is not kept as it was, once no round of it runs. `up` has the accounts of which a
-    /// session may receive, `queue` the requests that wait, of which those count that did not wait too long. If no rule fits, it is kept
+    /// What a tick makes of the message of this id, if it is not kept as it was, once no round of it runs. `reach` has the accounts of which a
+    /// session may receive and the messages of which an attempt may begin, `queue` the requests that wait, of which those count that did not wait too long. If no rule fits, it is kept
     /// as it was, and no memory is taken.
     #[inline(never)]
     pub fn turn(
@@ -338,16 +342,16 @@ impl Message {
         id: MsgId,
         at: &Standpoint,
         queue: &Queue,
-        up: &[SystemId],
+        reach: &Reach,
     ) -> Result<Option<Turn>, AllocError>
         requires { AreToldOf (timely at.now.clock (held_in queue.now)) }
         ensures same { IfOk result (IsOfTurn id self.now) }
         ensures turned { IfOk result (λ turn. (setup : Setup) (k : KeptValue) → IsAtRest setup k (timely at.now.clock (held_in queue.now)) id self.now at.now →
-            IsOf setup.node k.incarnation setup.nodes id self.now → turned k id turn ≡ ruled setup k id (first_rule setup k (is_up up.now) id)) }
+            IsOf setup.node k.incarnation setup.nodes id self.now → turned k id turn ≡ ruled setup k id (first_rule setup k (reach_of reach.now) id)) }
         ensures idle { (setup : Setup) (k : KeptValue) → IsAtRest setup k (timely at.now.clock (held_in queue.now)) id self.now at.now →
-            first_rule setup k (is_up up.now) id ≡ None → result ≡ Ok None }
+            first_rule setup k (reach_of reach.now) id ≡ None → result ≡ Ok None }
     {
-        let Some(ruling) = self.ruling(id, at, queue, up)? else {
+        let Some(ruling) = self.ruling(id, at, queue, reach)? else {
             return Ok(None);
         };
         let mut message = self.copy()?;
@@ -370,21 +374,21 @@ impl Message {
     }
 
     /// What a tick decides on the message of this id by the first rule that fits, if one does: it is taken for a submit_sm that waits, the
-    /// highest vote beyond what is known is followed that is its own or was told to a request, or it is decided what is due after that. `up`
-    /// has the accounts of which a session may receive, `queue` the requests that wait, of which those count that did not wait too long. It
+    /// highest vote beyond what is known is followed that is its own or was told to a request, or it is decided what is due after that. `reach`
+    /// has the accounts of which a session may receive and the messages of which an attempt may begin, `queue` the requests that wait, of which those count that did not wait too long. It
     /// takes memory only if a rule fits.
     pub fn ruling(
         &self,
         id: MsgId,
         at: &Standpoint,
         queue: &Queue,
-        up: &[SystemId],
+        reach: &Reach,
     ) -> Result<Option<Ruling>, AllocError>
         requires { AreToldOf (timely at.now.clock (held_in queue.now)) }
         ensures rule { IfOk result (λ ruling. (setup : Setup) (k : KeptValue) → IsAtRest setup k (timely at.now.clock (held_in queue.now)) id self.now at.now →
-            option_map ruled_as ruling ≡ option_map ruled_by (first_rule setup k (is_up up.now) id)) }
+            option_map ruled_as ruling ≡ option_map ruled_by (first_rule setup k (reach_of reach.now) id)) }
         ensures idle { (setup : Setup) (k : KeptValue) → IsAtRest setup k (timely at.now.clock (held_in queue.now)) id self.now at.now →
-            first_rule setup k (is_up up.now) id ≡ None → result ≡ Ok None }
+            first_rule setup k (reach_of reach.now) id ≡ None → result ≡ Ok None }
         ensures id { IfOk result (λ ruling. IfSome ruling (λ it. it.chain.id ≡ id)) }
         ensures place { IfOk result (λ ruling. IfSome ruling (λ it. IfSome it.given_up (λ place. place ≤ 18))) }
     {
@@ -404,7 +408,7 @@ impl Message {
             }));
         }
         match known {
-            Some(chain) => self.ruling_behind(chain, at, queue, up),
+            Some(chain) => self.ruling_behind(chain, at, queue, reach),
             None => Ok(None),
         }
     }
@@ -415,19 +419,21 @@ impl Message {
         chain: &Chain,
         at: &Standpoint,
         queue: &Queue,
-        up: &[SystemId],
+        reach: &Reach,
     ) -> Result<Option<Ruling>, AllocError>
         ensures rule { IfOk result (λ ruling. (setup : Setup) (k : KeptValue) → IsAtRest setup k
             (timely at.now.clock (held_in queue.now)) chain.now.id self.now at.now →
-            option_map ruled_as ruling ≡ option_map ruled_by (known_rule setup k (is_up up.now) chain.now.id (Some chain.now.decrees))) }
+            option_map ruled_as ruling ≡ option_map ruled_by (known_rule setup k (reach_of reach.now) chain.now.id (Some chain.now.decrees))) }
         ensures idle { (setup : Setup) (k : KeptValue) → IsAtRest setup k (timely at.now.clock (held_in queue.now)) chain.now.id self.now at.now →
-            known_rule setup k (is_up up.now) chain.now.id (Some chain.now.decrees) ≡ None → result ≡ Ok None }
+            known_rule setup k (reach_of reach.now) chain.now.id (Some chain.now.decrees) ≡ None → result ≡ Ok None }
         ensures id { IfOk result (λ ruling. IfSome ruling (λ it. it.chain.id ≡ chain.now.id)) }
         ensures place { IfOk result (λ ruling. IfSome ruling (λ it. IfSome it.given_up (λ place. place ≤ 18))) }
     {
         let place = chain.place();
-        let cancelled = queue.cancels(at.clock, chain.id(), chain.submission());
-        let Some(due) = at.due(chain, self.attempts.at(place), cancelled, up) else {
+        let taken = chain.submission();
+        let cancelled = queue.cancels(at.clock, chain.id(), taken);
+        let reached = reach.reached(chain.id(), taken);
+        let Some(due) = at.due(chain, self.attempts.at(place), cancelled, reached) else {
             return Ok(None);
         };
         let given_up = given_up(&due, place);

@@ -13,10 +13,12 @@ ghost use Rattle.mc_model.specs.synod.Lists.{In};
 ghost use Rattle.waiting_requests.specs.Numbers.{IsLeastFrom};
 ghost use Rattle.shelf.specs.Shelved.{Serves, value_at, with_value};
 ghost use Rattle.node_parts.specs.Counting.{IsCountable, recounted_at};
-ghost use Rattle.delivery.specs.Targets.{is_up};
 ghost use Rattle.node_parts.specs.declared.listing.Listing.{Listing as ListingValue};
 ghost use Rattle.node_parts.specs.declared.message.Message.{Message as Filed};
-ghost use Rattle.node_parts.specs.Living.{AreRising, IsNextBy, IsNextLive, IsPassedBy, IsPlaceOf, dropped, dropped_at, is_kept_listed, is_live, is_live_in};
+ghost use Rattle.node_parts.specs.Living.{IsNextBy, IsNextLive, IsPassedBy, IsPassedIn, dropped, dropped_at, is_kept_listed, is_live, is_live_in};
+ghost use Rattle.node_parts.specs.Rising.{AreRising, IsPlaceOf};
+ghost use Rattle.node_parts.specs.Living.{is_kept_in, lower_of};
+ghost use Rattle.node_parts.specs.Reaching.{are_all, named_in, reach_of};
 ghost use Rattle.node_parts.specs.Sleeping.{IsAsleep, IsDueIn, IsNoted, ids_of, is_due};
 ghost use Rattle.node_parts.specs.Renewal.{renewed};
 ghost use Rattle.node_parts.specs.Messages.{rested_entry};
@@ -24,14 +26,15 @@ ghost use Rattle.node_parts.specs.Messages.{rested_entry};
 use crate::awake::{self, Awake, next_from};
 use crate::list_room::{ListRoom, widen};
 use crate::listing::Listing;
+use crate::may_begin::MayBegin;
 use crate::message::Message;
 use crate::message_room::MessageRoom;
 use crate::noted::{Noted, is_noted};
+use crate::reach::Reach;
 use crate::renewal::Renewal;
 use crate::sleepers::doze_due;
 use fate_chain::Author;
 use mc_types::{Moment, MsgId};
-use pdu_codec::SystemId;
 use shelf::Shelf;
 use std::alloc::{AllocError, Global};
 use std::marker::Model;
@@ -114,28 +117,61 @@ impl MessageShelf {
         least_from(&self.live, from)
     }
 
-    /// The clock of a tick at this standpoint, if it is noted for its author and these accounts until when messages sleep. It takes no memory.
-    pub fn asleep_at(&self, at: &Standpoint, up: &[SystemId]) -> Option<Moment>
-        ensures passed { (id : ℕ) (m : Filed) → IsPassedBy self.now result id m → IsAsleep at.now (is_up up.now) id m }
-        ensures noted { IsSome result ↔ IsNoted self.now.noted at.now.author up.now }
+    /// The clock of a tick at this standpoint, if it is noted for its author and these accounts until when messages sleep, and for attempts that may begin
+    /// of all messages, or of none but those that are named. It takes no memory.
+    pub fn asleep_at(&self, at: &Standpoint, reach: &Reach) -> Option<Moment>
+        ensures passed { (id : ℕ) (m : Filed) → IsPassedIn self.now result reach.now.may id m → IsAsleep at.now (reach_of reach.now) id m }
+        ensures noted { IsSome result ↔ IsNoted self.now.noted at.now.author reach.now.up.items (are_all reach.now.may) }
         ensures clock { IfSome result (λ clock. clock ≡ at.now.clock) }
     {
-        if is_noted(&self.noted, &at.author, up) {
+        if is_noted(&self.noted, &at.author, &reach.up, reach.may.are_all()) {
             Some(at.clock)
         } else {
             None
         }
     }
 
-    /// The id of the next message that is live, from this number on, and is not noted to be asleep at a clock, if there is one; none if there is none. It
-    /// takes no memory.
-    pub fn next_due(&self, from: u64, asleep: &Option<Moment>) -> Option<MsgId>
+    /// The id of the next message, from this number on, that is live and not noted to be asleep at a clock, if there is one, or of which an attempt may
+    /// begin, unless of all; none if there is none. It takes no memory.
+    pub fn next_due(&self, from: u64, asleep: &Option<Moment>, may: &MayBegin) -> Option<MsgId>
+        ensures { IsNextBy (IsPassedIn self.now asleep.now may.now) self.now.entries from result }
+    {
+        lower_of(
+            self.next_awake(from, asleep),
+            self.first_kept(may.named(from)),
+        )
+    }
+
+    /// The id of the next message that is live, from this number on, and is not noted to be asleep at a clock, if there is one; none if there is none.
+    fn next_awake(&self, from: u64, asleep: &Option<Moment>) -> Option<MsgId>
         ensures { IsNextBy (IsPassedBy self.now asleep.now) self.now.entries from result }
     {
         match asleep {
             Some(clock) if *clock < self.awake.until => next_from(&self.awake.ids, from),
             Some(clock) => due_from(&self.live, from, *clock),
             None => least_from(&self.live, from),
+        }
+    }
+
+    /// The first of these ids of which a message is kept; none if there is none.
+    fn first_kept(&self, ids: &[MsgId]) -> Option<MsgId>
+        ensures { result ≡ find (is_kept_in self.now.entries) ids.now }
+    {
+        for id in ids {
+            if self.keeps(*id) {
+                return Some(*id);
+            }
+        }
+        None
+    }
+
+    /// Whether a message of this id is kept.
+    fn keeps(&self, id: MsgId) -> bool
+        ensures { result ≡ is_kept_in self.now.entries id }
+    {
+        match self.get(id) {
+            Some(_) => true,
+            None => false,
         }
     }
 
@@ -205,18 +241,24 @@ impl MessageShelf {
         unlist(&mut self.live, &mut self.awake.ids, &self.shelf);
     }
 
-    /// Notes for the author and these accounts until when each message sleeps that is due at the clock, or each, if it was not noted for them. If none
-    /// that sleeps is due, it looks at those that are awake alone. It takes no memory.
+    /// Notes for the author and these accounts until when each message sleeps that is due at the clock, or each, if it was not noted for them. If an
+    /// attempt may not begin of all, they sleep until something else is due. If none that sleeps is due, it looks at those that are awake alone. It takes
+    /// no memory.
     #[inline(never)]
-    pub fn doze(&mut self, at: &Standpoint, up: Vec<SystemId>)
+    pub fn doze(&mut self, at: &Standpoint, reach: Reach)
         ensures entries { self.new.entries ≡ self.old.entries }
         ensures room { self.new.room ≡ self.old.room }
         ensures listings { self.new.listings ≡ self.old.listings }
-        ensures noted { IsNoted self.new.noted at.now.author up.items }
+        ensures noted { IsNoted self.new.noted at.now.author reach.up.items (are_all reach.may) }
     {
         self.shelf.ascends();
-        let asleep = self.asleep_at(at, &up);
-        let noted = Noted { me: at.author, up };
+        let asleep = self.asleep_at(at, &reach);
+        let Reach { up, may } = reach;
+        let noted = Noted {
+            me: at.author,
+            up,
+            tries: may.are_all(),
+        };
         doze_due(
             &mut self.live,
             &mut self.awake,
@@ -302,6 +344,17 @@ fn due_from(live: &[Listing], from: u64, clock: Moment) -> Option<MsgId>
     match place_of(live, from) {
         Ok(place) => first_due(&live[place..], clock),
         Err(place) => first_due(&live[place..], clock),
+    }
+}
+
+/// The lower of two ids, if there are two. It takes no memory.
+pub fn lower_of(one: Option<MsgId>, other: Option<MsgId>) -> Option<MsgId>
+    ensures { result ≡ lower_of one other }
+{
+    match (one, other) {
+        (Some(one), Some(other)) if other.number() < one.number() => Some(other),
+        (Some(one), _) => Some(one),
+        (None, other) => other,
     }
 }
 

@@ -2,9 +2,8 @@
 
 ghost use Rattle.std.specs.Prelude.{◌≡◌, ◌≤◌, ◌<◌, length, map, Some, None};
 ghost use Rattle.std.specs.Vec.{vec_capacity};
-ghost use Rattle.delivery.specs.Targets.{is_up};
-ghost use Rattle.node_parts.specs.Living.{AreRising};
-ghost use Rattle.node_parts.specs.Sleeping.{dozed, ids_of, is_looked_at};
+ghost use Rattle.node_parts.specs.Rising.{AreRising};
+ghost use Rattle.node_parts.specs.Sleeping.{dozed, ids_of, is_looked_at, reach_noted};
 ghost use Rattle.node_parts.specs.Waking.{AreAwake, all_looked_at, awake_in, looked_at, sooner, soonest_at, soonest_in, until_at};
 
 use crate::awake::Awake;
@@ -12,9 +11,7 @@ use crate::listing::Listing;
 use crate::message::Message;
 use crate::message_shelf::place_of;
 use crate::noted::Noted;
-use fate_chain::Author;
 use mc_types::{Moment, MsgId};
-use pdu_codec::SystemId;
 use shelf::Shelf;
 
 /// Notes until when each message sleeps that is due at a clock, or each, if there is none. If no other one wakes at the clock, it looks at those that are
@@ -29,7 +26,7 @@ pub(crate) fn doze_due(
     requires rising { AreRising (ids_of live.old.items) }
     requires awake { AreAwake awake.old.until live.old.items awake.old.ids.items }
     requires room { length live.old.items ≤ vec_capacity awake.old.ids }
-    ensures live { live.new.items ≡ map (dozed shelf.now.entries noted.now.me (is_up noted.now.up.items) clock.now) live.old.items }
+    ensures live { live.new.items ≡ map (dozed shelf.now.entries noted.now.me (reach_noted noted.now) clock.now) live.old.items }
     ensures capacity { vec_capacity live.new ≡ vec_capacity live.old }
     ensures awake { AreAwake awake.new.until live.new.items awake.new.ids.items }
     ensures room { vec_capacity awake.new.ids ≡ vec_capacity awake.old.ids }
@@ -51,7 +48,7 @@ fn doze_awake(
     requires rising { AreRising (ids_of live.old.items) }
     requires awake { AreAwake awake.old.until live.old.items awake.old.ids.items }
     requires clock { clock < awake.old.until }
-    ensures live { live.new.items ≡ map (dozed shelf.now.entries noted.now.me (is_up noted.now.up.items) (Some clock)) live.old.items }
+    ensures live { live.new.items ≡ map (dozed shelf.now.entries noted.now.me (reach_noted noted.now) (Some clock)) live.old.items }
     ensures capacity { vec_capacity live.new ≡ vec_capacity live.old }
     ensures awake { AreAwake awake.new.until live.new.items awake.new.ids.items }
     ensures room { vec_capacity awake.new.ids ≡ vec_capacity awake.old.ids }
@@ -71,12 +68,12 @@ fn doze_live(
 )
     requires rising { AreRising (ids_of live.old.items) }
     requires room { length live.old.items ≤ vec_capacity awake.old.ids }
-    ensures live { live.new.items ≡ map (dozed shelf.now.entries noted.now.me (is_up noted.now.up.items) clock.now) live.old.items }
+    ensures live { live.new.items ≡ map (dozed shelf.now.entries noted.now.me (reach_noted noted.now) clock.now) live.old.items }
     ensures capacity { vec_capacity live.new ≡ vec_capacity live.old }
     ensures awake { AreAwake awake.new.until live.new.items awake.new.ids.items }
     ensures room { vec_capacity awake.new.ids ≡ vec_capacity awake.old.ids }
 {
-    doze_each(live, shelf, &noted.me, &noted.up, clock);
+    doze_each(live, shelf, noted, clock);
     awake.until = soonest_in(live);
     gather(&mut awake.ids, live);
 }
@@ -91,7 +88,7 @@ fn doze_all(
 )
     requires { AreRising (ids_of live.old.items) }
     ensures live { live.new.items
-        ≡ all_looked_at (dozed shelf.now.entries noted.now.me (is_up noted.now.up.items) (Some clock)) ids.now live.old.items }
+        ≡ all_looked_at (dozed shelf.now.entries noted.now.me (reach_noted noted.now) (Some clock)) ids.now live.old.items }
     ensures capacity { vec_capacity live.new ≡ vec_capacity live.old }
 {
     for id in ids {
@@ -109,43 +106,31 @@ fn doze_one(
 )
     requires { AreRising (ids_of live.old.items) }
     ensures live { live.new.items
-        ≡ looked_at (dozed shelf.now.entries noted.now.me (is_up noted.now.up.items) (Some clock)) id live.old.items }
+        ≡ looked_at (dozed shelf.now.entries noted.now.me (reach_noted noted.now) (Some clock)) id live.old.items }
     ensures capacity { vec_capacity live.new ≡ vec_capacity live.old }
 {
     if let Ok(place) = place_of(live, id.number()) {
-        doze(&mut live[place], shelf, &noted.me, &noted.up, &Some(clock));
+        doze(&mut live[place], shelf, noted, &Some(clock));
     }
 }
 
 /// Notes until when each message sleeps that is due at a clock, or each, if there is none.
-fn doze_each(
-    live: &mut Vec<Listing>,
-    shelf: &Shelf<Message>,
-    me: &Author,
-    up: &[SystemId],
-    clock: &Option<Moment>,
-)
-    ensures live { live.new.items ≡ map (dozed shelf.now.entries me.now (is_up up.now) clock.now) live.old.items }
+fn doze_each(live: &mut Vec<Listing>, shelf: &Shelf<Message>, noted: &Noted, clock: &Option<Moment>)
+    ensures live { live.new.items ≡ map (dozed shelf.now.entries noted.now.me (reach_noted noted.now) clock.now) live.old.items }
     ensures capacity { vec_capacity live.new ≡ vec_capacity live.old }
 {
     for listing in live.iter_mut() {
-        doze(listing, shelf, me, up, clock);
+        doze(listing, shelf, noted, clock);
     }
 }
 
 /// Notes until when a message sleeps, if it is due at a clock, or if there is none.
-fn doze(
-    listing: &mut Listing,
-    shelf: &Shelf<Message>,
-    me: &Author,
-    up: &[SystemId],
-    clock: &Option<Moment>,
-)
-    ensures { listing.new ≡ dozed shelf.now.entries me.now (is_up up.now) clock.now listing.old }
+fn doze(listing: &mut Listing, shelf: &Shelf<Message>, noted: &Noted, clock: &Option<Moment>)
+    ensures { listing.new ≡ dozed shelf.now.entries noted.now.me (reach_noted noted.now) clock.now listing.old }
 {
     if is_looked_at(clock, listing) {
         listing.until = match shelf.get(listing.id.number()) {
-            Some(message) => message.until(listing.id, me, up),
+            Some(message) => message.until(listing.id, &noted.me, &noted.up, noted.tries),
             None => None,
         };
     }

@@ -52,7 +52,7 @@ comes node (given.Request account request) is_node lives begun sound free =
     (request_comes node.kept.setup (kept_of node.kept) is_node lives begun account request).may
 comes node (given.Grant id) is_node lives begun sound free = grantable node.kept.setup (kept_of node.kept) id free
 comes node (given.Answered slot outcome) is_node lives begun sound free = open_so (kept_of node.kept) slot (outcome_kept outcome) sound free
-comes node (given.Tick moment up) is_node lives begun sound free = tt
+comes node (given.Tick moment reach) is_node lives begun sound free = tt
 
 -- ---- a step that is not taken
 

@@ -46,7 +46,7 @@ IsSound (given.Packet packet) = IsWellMade (packet_of packet)
 IsSound (given.Request account request) = Unit {0}
 IsSound (given.Grant id) = Unit {0}
 IsSound (given.Answered slot outcome) = IsOutcome (outcome_kept outcome)
-IsSound (given.Tick moment up) = Unit {0}
+IsSound (given.Tick moment reach) = Unit {0}
 
 -- an input that may come to this node
 abbrev pub may_come_to : {S : Type 0} → Standing S → Given → Type 0

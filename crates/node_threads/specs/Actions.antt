@@ -15,7 +15,7 @@ use Rattle.node_threads.specs.declared.action.Action.TheVariants as actions
 abbrev pub step_of : Action → Step
 step_of (actions.Deliver number node) = steps.Deliver number node
 step_of (actions.Request node account request) = steps.Request node account request
-step_of (actions.Tick node moment up) = steps.Tick node moment up
+step_of (actions.Tick node moment reach) = steps.Tick node moment reach
 
 -- each of these nodes is one of the cluster, and stands where the journal begins
 abbrev pub AllBegin : {S : Type 0} → Cluster → (ℕ → Kept) → List (Standing S) → Type 0

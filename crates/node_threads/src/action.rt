@@ -3,11 +3,11 @@
 ghost use Rattle.std.specs.Prelude.{◌≡◌};
 ghost use Rattle.journal_parts.specs.Faults.{IsCopied};
 ghost use Rattle.journal_parts.specs.Members.{IsAct};
-ghost use Rattle.journal_parts.specs.Runs.{node_at};
+ghost use Rattle.journal_parts.specs.Taking.{node_at};
 ghost use Rattle.node_threads.specs.Actions.{step_of};
 
 use desk::Request;
-use journal_parts::Step;
+use journal_parts::{Reach, Step};
 use mc_types::{Moment, NodeNo};
 use pdu_codec::SystemId;
 
@@ -25,11 +25,11 @@ pub enum Action {
         account: SystemId,
         request: Request,
     },
-    /// Time passes at a node: the moment, and the accounts of which a session may receive there.
+    /// Time passes at a node: the moment, with the accounts of which a session may receive there, and the messages of which an attempt may begin.
     Tick {
         node: NodeNo,
         moment: Moment,
-        up: Vec<SystemId>,
+        reach: Reach,
     },
 }
 
@@ -62,7 +62,15 @@ impl Action {
                 account,
                 request,
             },
-            Action::Tick { node, moment, up } => Step::Tick { node, moment, up },
+            Action::Tick {
+                node,
+                moment,
+                reach,
+            } => Step::Tick {
+                node,
+                moment,
+                reach,
+            },
         }
     }
 }

@@ -6,7 +6,7 @@ ghost use Rattle.journal_parts.specs.Faults.{IsCopied, fault_at};
 ghost use Rattle.journal_parts.specs.Members.{CanBeTaken, IsAct};
 ghost use Rattle.journal_parts.specs.Refusals.{IsRefusedAs};
 ghost use Rattle.journal_parts.specs.declared.refusal.Refusal.TheVariants.{Broken, Device, Full, Memory, NoSuchPacket};
-ghost use Rattle.journal_parts.specs.Runs.{node_at};
+ghost use Rattle.journal_parts.specs.Taking.{node_at};
 
 use journal_parts::{Begins, EntryCopies, Member, Packet, Refusal, Register, Seat, Slip, Step};
 use stable_store::StableStore;

@@ -14,6 +14,7 @@ use Rattle.mc_model.specs.node.FirstRule.{Announce, Close, Delete, Expire, Follo
 use Rattle.mc_model.specs.node.Outcome.{Outcome}
 use Rattle.mc_model.specs.node.Outputs.{Reply}
 use Rattle.mc_model.specs.node.Replies.{Answer, NotMatched, NotOwner, Removed, Shown, TooLate}
+use Rattle.mc_model.specs.node.Reach.{Reach}
 use Rattle.mc_model.specs.node.Setup.{Setup}
 use Rattle.mc_parts.proofs.Membership.{in_filter, in_two}
 use Rattle.node_laws.proofs.invariant.Orders.{in_mapped}
@@ -368,15 +369,15 @@ ruled_same setup k id (Some fit) =
     by_rule Try place = record { held = refl; ticket = refl }
     by_rule Announce place = record { held = refl; ticket = refl }
 
-each_same : (setup : Setup) (up : List ℕ → Bool) (ids : List ℕ) (k : Kept) → Same k (ruled_each setup up ids k).kept
-each_same setup up [] k = record { held = refl; ticket = refl }
-each_same setup up (id ∷ others) k =
-    let first = ruled_same setup k id (first_rule setup k up id) in
-    let rest = each_same setup up others (ruled setup k id (first_rule setup k up id)).kept in
+each_same : (setup : Setup) (reach : Reach) (ids : List ℕ) (k : Kept) → Same k (ruled_each setup reach ids k).kept
+each_same setup reach [] k = record { held = refl; ticket = refl }
+each_same setup reach (id ∷ others) k =
+    let first = ruled_same setup k id (first_rule setup k reach id) in
+    let rest = each_same setup reach others (ruled setup k id (first_rule setup k reach id)).kept in
     record { held = rest.held ∙ first.held; ticket = rest.ticket ∙ first.ticket }
 
-tick_so : (input : Input) (setup : Setup) (k : Kept) (moment : ℕ) (up : List ℕ → Bool) → StepSo input k (on_tick setup k moment up)
-tick_so input setup k moment up = record {
+tick_so : (input : Input) (setup : Setup) (k : Kept) (moment : ℕ) (reach : Reach) → StepSo input k (on_tick setup k moment reach)
+tick_so input setup k moment reach = record {
   ticket = omega (arith, same.ticket);
   held = λ h among. inl (the_same k.held h (in_filter _ k.held h (subst (In h) same.held among)));
   replies = λ reply among.
@@ -459,7 +460,7 @@ up_so setup k (Crash packet after) plain =
     same_so (Crash packet after) k (leaves (stopped setup k packet after)) (stopped_same setup k packet after) refl refl
 up_so setup k (Arrival request) plain = arrival_so setup k request
 up_so setup k (Refusal status) plain = same_so (Refusal status) k _ (record { held = refl; ticket = refl }) refl refl
-up_so setup k (Tick moment up) plain = tick_so (Tick moment up) setup k moment up
+up_so setup k (Tick moment reach) plain = tick_so (Tick moment reach) setup k moment reach
 up_so setup k (Grant slot) plain = same_so (Grant slot) k _ (record { held = refl; ticket = refl }) refl refl
 up_so setup k (Response slot outcome) plain = response_so (Response slot outcome) setup k slot outcome
 up_so setup k (Restart lost) plain = absurd (plain lost refl)
@@ -469,7 +470,7 @@ down_so setup k (Delivery packet) plain = leaves_so (Delivery packet) k
 down_so setup k (Crash packet after) plain = leaves_so (Crash packet after) k
 down_so setup k (Arrival request) plain = leaves_so (Arrival request) k
 down_so setup k (Refusal status) plain = leaves_so (Refusal status) k
-down_so setup k (Tick moment up) plain = leaves_so (Tick moment up) k
+down_so setup k (Tick moment reach) plain = leaves_so (Tick moment reach) k
 down_so setup k (Grant slot) plain = leaves_so (Grant slot) k
 down_so setup k (Response slot outcome) plain = leaves_so (Response slot outcome) k
 down_so setup k (Restart lost) plain = absurd (plain lost refl)

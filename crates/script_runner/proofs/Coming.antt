@@ -22,8 +22,8 @@ use Rattle.world.specs.Scenes.{Scene, is_up_in}
 use Rattle.world.specs.declared.fault.WorldFault.{WorldFault}
 use Rattle.world.specs.declared.fault.WorldFault.TheVariants as faults
 use Rattle.world.specs.declared.given.Given.{Given}
-use Rattle.world.specs.declared.step.Step.{Step}
-use Rattle.world.specs.declared.step.Step.TheVariants as steps
+use Rattle.world.specs.Step.{Step}
+use Rattle.world.specs.Step.TheVariants as steps
 use Rattle.script_text.specs.Node.{step_at, with_step}
 use Rattle.script_text.specs.Runner.{Acted, Runner, given_out, on_delivery}
 use Rattle.script_text.specs.World.{Moved, World, comes, comes_if, crashed, crashes, crashes_if, if_up, is_down, is_up_at, marked, no_packet, packet_of, refuses, runner_at, shared, up_or_refuses}

@@ -13,7 +13,7 @@ use Rattle.world.specs.Runs.{IsFault, Leads, absent, last_incarnation as world_l
 use Rattle.world.specs.declared.fault.WorldFault.{WorldFault}
 use Rattle.world.specs.declared.fault.WorldFault.TheVariants as faults
 use Rattle.world.specs.declared.given.Given.{Given}
-use Rattle.world.specs.declared.step.Step.TheVariants as steps
+use Rattle.world.specs.Step.TheVariants as steps
 use Rattle.script_text.specs.Node.{step_at, with_step}
 use Rattle.script_text.specs.Prints.{declined_line, text_at}
 use Rattle.script_text.specs.Runner.{Acted, Runner, declined, gone_prints, last_incarnation, no_incarnation, on_restart, restarted}

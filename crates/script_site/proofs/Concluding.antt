@@ -14,7 +14,7 @@ use Rattle.world.specs.Runs.{Leads}
 use Rattle.world.specs.Scenes.{Scene}
 use Rattle.world.specs.declared.fault.WorldFault.TheVariants as faults
 use Rattle.world.specs.declared.given.Given.{Given}
-use Rattle.world.specs.declared.step.Step.TheVariants as steps
+use Rattle.world.specs.Step.TheVariants as steps
 use Rattle.script_text.specs.Left.{followed_by, rests}
 use Rattle.script_text.specs.Attempts.{Went, all_given_up, concluded, delivered_so, given_up, unanswered, went}
 use Rattle.script_text.specs.Node.{Node}

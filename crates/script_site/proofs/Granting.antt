@@ -20,7 +20,7 @@ use Rattle.world.specs.Runs.{Leads}
 use Rattle.world.specs.Scenes.{Scene}
 use Rattle.world.specs.declared.fault.WorldFault.TheVariants as faults
 use Rattle.world.specs.declared.given.Given.{Given}
-use Rattle.world.specs.declared.step.Step.TheVariants as steps
+use Rattle.world.specs.Step.TheVariants as steps
 use Rattle.script_text.specs.Attempts.{submission_at, taken_on}
 use Rattle.script_text.specs.Node.{Node, step_at}
 use Rattle.script_text.specs.Prints.{ungranted_line}

@@ -18,7 +18,7 @@ use Rattle.sessions.specs.declared.response.Outgoing.{Outgoing}
 use Rattle.sessions.specs.declared.pushed.Pushed.{Pushed}
 use Rattle.world.specs.Scenes.{Scene}
 use Rattle.world.specs.declared.given.Given.{Given}
-use Rattle.world.specs.declared.step.Step.TheVariants as steps
+use Rattle.world.specs.Step.TheVariants as steps
 use Rattle.esme_service.specs.Service.{Service}
 use Rattle.esme_service.specs.Sessions.{account_at, waits_at}
 use Rattle.esme_service.specs.declared.heard.Asked.{Asked}

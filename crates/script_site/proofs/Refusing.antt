@@ -18,7 +18,7 @@ use Rattle.world.specs.Runs.{IsFault, Leads, away, or_else}
 use Rattle.world.specs.Scenes.{Scene}
 use Rattle.world.specs.declared.fault.WorldFault.{WorldFault}
 use Rattle.world.specs.declared.fault.WorldFault.TheVariants as faults
-use Rattle.world.specs.declared.step.Step.TheVariants as steps
+use Rattle.world.specs.Step.TheVariants as steps
 use Rattle.script_text.specs.Node.{Node}
 use Rattle.script_text.specs.World.{World}
 use Rattle.script_site.specs.Sites.{IsGoing}

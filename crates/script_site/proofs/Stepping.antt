@@ -4,8 +4,9 @@ use Rattle.std.proofs.Common.{inl, inr, arith, append_assoc, ◌<◌, zero}
 use Rattle.std.specs.Prelude.{reverse, slice_get, if◌then◌else◌}
 use Rattle.std.proofs.lemmas.Bool.{true≢false}
 use Rattle.std.proofs.lemmas.List.{reverse-append}
-use Rattle.mc_model.specs.node.Input.{Grant, Input, Response}
+use Rattle.mc_model.specs.node.Input.{Grant, Input, Response, Tick}
 use Rattle.mc_model.specs.node.Actor.{opening_clock}
+use Rattle.mc_model.specs.node.Reach.{Reach, of_all}
 use Rattle.mc_model.specs.cluster.Steps.{Cluster}
 use Rattle.mc_laws.proofs.invariant.Growth.{changed_cases, changed_here}
 use Rattle.node_model.specs.Granted.{known_slot}
@@ -16,14 +17,18 @@ use Rattle.node_laws.specs.Clusters.{KeptCluster, NodeInput, comes_to, kept_reac
 use Rattle.desk.specs.Arrivals.{requested}
 use Rattle.desk.specs.declared.request.Request.{Request}
 use Rattle.delivery.specs.Kept.{outcome_kept}
+use Rattle.delivery.specs.Targets.{is_up as is_account_up}
 use Rattle.delivery.specs.declared.outcome.Outcome.{Outcome}
 use Rattle.sim_net.specs.Network.{numbered}
-use Rattle.world.specs.Runs.{Comes, IsAt, IsGiven, Leads, LosesNone, StandsAs, leaves_up, node_at}
+use Rattle.world.specs.Reach.{Reach as ReachGiven}
+use Rattle.world.specs.Reaching.{reach_of}
+use Rattle.world.specs.Runs.{Comes, IsAt, IsGiven, Leads, LosesNone, StandsAs, leaves_up}
+use Rattle.world.specs.Taking.{node_at}
 use Rattle.world.specs.Scenes.{Placed, Scene, clock_in, clock_of, is_up, is_up_in}
 use Rattle.world.specs.declared.fault.WorldFault.{WorldFault}
 use Rattle.world.specs.declared.given.Given.{Given}
-use Rattle.world.specs.declared.step.Step.{Step}
-use Rattle.world.specs.declared.step.Step.TheVariants as steps
+use Rattle.world.specs.Step.{Step}
+use Rattle.world.specs.Step.TheVariants as steps
 use Rattle.world.proofs.Leading.{stands_up}
 use Rattle.script_text.specs.Node.{Node, request_at, step_at, tick_at, with_step}
 use Rattle.script_text.specs.Runner.{Runner}
@@ -185,10 +190,11 @@ module _ (home : ℕ) (scene : Scene) (w : World) (node : Node) (going : IsGoing
       taken (steps.Request home account request) given new (request_at node account request) takes refl refl
       (λ next comes. comes ∙ (λ i. comes_to home (requested (sym among.one.setup i) (sym among.one.kept i) account request)))
 
-  pub tick_goes : (moment : ℕ) (up : _) (given : Given) (new : Scene) → Takes scene (steps.Tick home moment up) given new →
-      Steps new given (tick_at moment up.items)
-  tick_goes moment up given new takes =
-      taken (steps.Tick home moment up) given new (tick_at moment up.items) takes refl refl (λ next comes. comes)
+  pub tick_goes : (moment : ℕ) (reach : ReachGiven) (accounts : List (List ℕ)) (given : Given) (new : Scene) →
+      reach_of reach ≡ of_all (is_account_up accounts) → Takes scene (steps.Tick home moment reach) given new → Steps new given (tick_at moment accounts)
+  tick_goes moment reach accounts given new same takes =
+      taken (steps.Tick home moment reach) given new (tick_at moment accounts) takes refl refl
+      (λ next comes. comes ∙ ap (λ (r : Reach). comes_to home (Tick moment r)) same)
 
   pub grant_goes : (id : ℕ) (given : Given) (new : Scene) → Takes scene (steps.Grant home id) given new → Steps new given (Grant (known_slot node.kept id))
   grant_goes id given new takes =

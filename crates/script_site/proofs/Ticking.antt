@@ -1,16 +1,19 @@
 -- A moment has come: the node is told of it, its replies go out, and what waits too long is given up.
 use Rattle.std.proofs.Common.{◌≡◌, ℕ, List, ◌++◌, map, Result, refl, sym, ap, subst, ◌∙◌}
 use Rattle.std.proofs.lemmas.List.{append-nil}
-use Rattle.std.specs.Global.{Vec}
 use Rattle.std.specs.Prelude.{OnOk}
 use Rattle.std.specs.declared.alloc.AllocError.{AllocError}
 use Rattle.mc_model.specs.node.Outputs.{Outputs}
+use Rattle.mc_model.specs.node.Reach.{of_all}
+use Rattle.delivery.specs.Targets.{is_up}
 use Rattle.waiting_requests.specs.Replying.{reply_given}
 use Rattle.sessions.specs.Session.{Session}
 use Rattle.sessions.specs.declared.pushed.Pushed.{Pushed}
+use Rattle.world.specs.Reach.{Reach as ReachGiven}
+use Rattle.world.specs.Reaching.{reach_of}
 use Rattle.world.specs.Scenes.{Scene, clock_in}
 use Rattle.world.specs.declared.given.Given.{Given}
-use Rattle.world.specs.declared.step.Step.TheVariants as steps
+use Rattle.world.specs.Step.TheVariants as steps
 use Rattle.script_text.specs.Attempts.{all_given_up}
 use Rattle.script_text.specs.Node.{step_at, tick_at}
 use Rattle.script_text.specs.Pushes.{accounts_up, overdue_in, timely_in}
@@ -26,19 +29,20 @@ use Rattle.script_site.proofs.Acting.{clock_so, mail_is, posted_acts, then_acts_
 use Rattle.script_site.proofs.Stepping.{tick_goes}
 
 -- The node was told of a moment, and its replies went out.
-pub ticked_acts : (at : Placed) (new : Scene) (middle : Service) (moment : ℕ) (up : Vec (List ℕ)) (given : Given) (before text : List ℕ)
-    → up.items ≡ accounts_up at.site.service.sessions → Takes at.world (steps.Tick at.site.node moment up) given new
+pub ticked_acts : (at : Placed) (new : Scene) (middle : Service) (moment : ℕ) (reach : ReachGiven) (accounts : List (List ℕ)) (given : Given)
+    (before text : List ℕ) → accounts ≡ accounts_up at.site.service.sessions → reach_of reach ≡ of_all (is_up accounts)
+    → Takes at.world (steps.Tick at.site.node moment reach) given new
     → AreTold at.site.node (told at.site.service.sessions (map reply_given given.replies.items)) middle.sessions before text
     → middle.waiting ≡ at.site.service.waiting
     → Acts at.site.node (λ runner. ticked runner moment) at (record { world = new; site = record at.site { service = middle } }) before text
-ticked_acts at new middle moment up given before text are takes went waiting w runner running =
+ticked_acts at new middle moment reach accounts given before text are same_reach takes went waiting w runner running =
     let home = at.site.node in
-    let went_on = tick_goes home at.world w runner.node running.going moment up given new takes in
+    let went_on = tick_goes home at.world w runner.node running.going moment reach accounts given new same_reach takes in
     let replies = ap (λ (o : Outputs). o.replies) went_on.1.others in
     let same : told at.site.service.sessions (map reply_given given.replies.items)
-    ≡ told runner.sessions (step_at runner.node (tick_at moment up.items)).outputs.replies =
+    ≡ told runner.sessions (step_at runner.node (tick_at moment accounts)).outputs.replies =
     λ i. told (running.sessions i) (replies i) in
-    let did : HasActed home w (ticks_by runner (tick_at moment up.items)) (record { world = new; site = record at.site { service = middle } }) before text =
+    let did : HasActed home w (ticks_by runner (tick_at moment accounts)) (record { world = new; site = record at.site { service = middle } }) before text =
     record {
       running = record {
         home_is = refl;
@@ -49,21 +53,22 @@ ticked_acts at new middle moment up given before text are takes went waiting w r
       };
       text = went.text ∙ ap (λ (t : Told). before ++ text_at home t.prints) same;
     } in
-    subst (λ (accounts : List (List ℕ)). HasActed home w (ticks_by runner (tick_at moment accounts))
+    subst (λ (ups : List (List ℕ)). HasActed home w (ticks_by runner (tick_at moment ups))
     (record { world = new; site = record at.site { service = middle } }) before text)
     (are ∙ ap accounts_up running.sessions) did
 
 -- And there was room for more.
-pub tick_acts : (r : Result (Unit {0}) AllocError) (at : Placed) (mid : Scene) (middle : Service) (new : Placed) (moment : ℕ) (up : Vec (List ℕ))
-    (given : Given) (before text after : List ℕ)
-    → up.items ≡ accounts_up at.site.service.sessions → Takes at.world (steps.Tick at.site.node moment up) given mid
+pub tick_acts : (r : Result (Unit {0}) AllocError) (at : Placed) (mid : Scene) (middle : Service) (new : Placed) (moment : ℕ)
+    (reach : ReachGiven) (accounts : List (List ℕ)) (given : Given) (before text after : List ℕ)
+    → accounts ≡ accounts_up at.site.service.sessions → reach_of reach ≡ of_all (is_up accounts)
+    → Takes at.world (steps.Tick at.site.node moment reach) given mid
     → AreTold at.site.node (told at.site.service.sessions (map reply_given given.replies.items)) middle.sessions before text
     → middle.waiting ≡ at.site.service.waiting
     → OnOk r (Acts at.site.node makes_room (record { world = mid; site = record at.site { service = middle } }) new text after)
     → OnOk r (Acts at.site.node (λ runner. on_tick runner moment) at new before after)
-tick_acts r at mid middle new moment up given before text after are takes went waiting room =
+tick_acts r at mid middle new moment reach accounts given before text after are same_reach takes went waiting room =
     then_acts_if at.site.node r (λ runner. ticked runner moment) makes_room at (record { world = mid; site = record at.site { service = middle } }) new
-    before text after (ticked_acts at mid middle moment up given before text are takes went waiting) room
+    before text after (ticked_acts at mid middle moment reach accounts given before text are same_reach takes went waiting) room
 
 -- ---- what waits too long
 

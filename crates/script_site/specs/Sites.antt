@@ -3,10 +3,11 @@ use Rattle.std.specs.Prelude.{◌≡◌, ℕ, suc, true, List, [], ◌++◌, len
 use Rattle.mc_model.specs.node.Outputs.{Receipt, Reply}
 use Rattle.mc_model.specs.cluster.Steps.{Cluster}
 use Rattle.node_laws.specs.Clusters.{NodeInput, kept_reached}
-use Rattle.world.specs.Runs.{IsAt, Leads, leaves_up, node_at}
+use Rattle.world.specs.Runs.{IsAt, Leads, leaves_up}
+use Rattle.world.specs.Taking.{node_at}
 use Rattle.world.specs.Scenes.{Scene, is_up_in}
 use Rattle.world.specs.declared.given.Given.{Given}
-use Rattle.world.specs.declared.step.Step.{Step}
+use Rattle.world.specs.Step.{Step}
 use Rattle.script_text.specs.Left.{followed_by}
 use Rattle.script_text.specs.Attempts.{Went}
 use Rattle.script_text.specs.Node.{Node}

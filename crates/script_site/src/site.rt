@@ -21,7 +21,7 @@ use mc_types::{Moment, MsgId, NodeNo, Slot};
 use pdu_frames::Framer;
 use sessions::Outgoing;
 use std::alloc::{AllocError, Global};
-use world::{Given, Step, World};
+use world::{Given, Reach, Step, World};
 
 /// What stands beside a node of a world that is up: the service of its ESMEs, and of each session the octets of the PDU that has not come whole.
 /// After an `Err` of a call, which is want of memory, nothing is said of it.
@@ -261,7 +261,7 @@ impl Site {
             Step::Tick {
                 node: self.node,
                 moment,
-                up,
+                reach: Reach::of_all(up),
             },
         )?;
         write_replies(text, self.node, &mut self.service, given.replies)?;

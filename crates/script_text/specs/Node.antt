@@ -8,6 +8,7 @@ use Rattle.node_model.specs.Outputs.{Stepped}
 use Rattle.node_model.specs.Stepped.{opened_new, stepped}
 use Rattle.desk.specs.Arrivals.{requested}
 use Rattle.desk.specs.declared.request.Request.{Request}
+use Rattle.mc_model.specs.node.Reach.{of_all}
 use Rattle.delivery.specs.Targets.{is_up}
 
 pub record Node : Type 0 where
@@ -39,4 +40,4 @@ request_at node account request = requested node.setup node.kept account request
 
 -- a moment, at which these accounts have a session that may receive
 abbrev pub tick_at : ℕ → List (List ℕ) → Input
-tick_at moment up = Tick moment (is_up up)
+tick_at moment up = Tick moment (of_all (is_up up))

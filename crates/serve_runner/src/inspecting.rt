@@ -68,6 +68,7 @@ fn print_limits<R: Print>(rt: &R, own: Own) {
     print_limit(rt, "no octet comes", own.idle_seconds);
     print_limit(rt, "nobody binds", own.bind_seconds);
     print_limit(rt, "its ESME takes nothing", own.write_seconds);
+    print_linger(rt, own.linger_seconds);
     let sessions = match own.sessions {
         0 => MOST_SESSIONS,
         sessions => sessions.min(MOST_SESSIONS),
@@ -82,6 +83,15 @@ fn print_limits<R: Print>(rt: &R, own: Own) {
         entries => entries,
     };
     let _ = println!(rt; "a part of the journal is closed after {entries} steps");
+}
+
+/// Prints when attempts fail that wait for a place, if no session of their account may receive any more.
+fn print_linger<R: Print>(rt: &R, seconds: u32) {
+    let what = "an attempt that waits for a place fails";
+    let _ = match seconds {
+        0 => println!(rt; "{what} if no session of its account may receive"),
+        _ => println!(rt; "{what} if no session of its account may receive for {seconds} seconds"),
+    };
 }
 
 /// Prints after how many seconds a connection is ended on which something is so, if it is.

@@ -83,6 +83,7 @@ fn settings(rt: &impl Abort, alloc: Global, case: Case) -> Settings {
             idle_seconds: 0,
             bind_seconds: 0,
             write_seconds: 0,
+            linger_seconds: 0,
             sessions: 0,
             part_entries: case.part_entries,
             ends_full: false,

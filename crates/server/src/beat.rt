@@ -13,9 +13,6 @@ const ROUNDS_IN_GAP: u64 = 4;
 /// How long behind each other it is begun to look at all messages that may be granted, in milliseconds: so one is found that waits nowhere, as for want of memory.
 const LOOK_GAP: u64 = 60_000;
 
-/// How long a node with few message_ids left waits for a quiet moment in which to start anew, in milliseconds.
-const PATIENCE: u64 = 30_000;
-
 /// When a node ticks.
 #[derive(Clone, Copy)]
 pub(crate) struct Beat {
@@ -25,8 +22,6 @@ pub(crate) struct Beat {
     gap: u64,
     // When it was begun to look at all messages that may be granted.
     looked: Mark,
-    // Since when it has few message_ids left, if it has.
-    low: Option<Mark>,
 }
 
 impl Beat {
@@ -37,7 +32,6 @@ impl Beat {
             ticked: now,
             gap: LEAST_GAP,
             looked: now,
-            low: None,
         }
     }
 
@@ -60,19 +54,5 @@ impl Beat {
     /// How many milliseconds are left before it may tick at once.
     pub(crate) fn left<R: Clock>(&self, rt: &R) -> u64 {
         self.gap.saturating_sub(self.ticked.gone(rt))
-    }
-
-    /// It has few message_ids left, or not; whether it has had for so long that it waits no more.
-    pub(crate) fn has_few<R: Clock>(&mut self, rt: &R, is_low: bool) -> bool {
-        if !is_low {
-            self.low = None;
-            return false;
-        }
-        let since = match self.low {
-            Some(since) => since,
-            None => Mark::now(rt),
-        };
-        self.low = Some(since);
-        since.is_past(rt, PATIENCE)
     }
 }

@@ -81,6 +81,9 @@ fn carry<S: StableStore, L: Begins, R: Wait + Eprint + Clock>(
     }
     let mut guard = shift.station.site.lock(shift.rt);
     let site = &mut *guard;
+    if let Some(Packet::Voted { vote, .. }) = slip.packet() {
+        site.backlog.note(&vote.chain);
+    }
     site.tell(shift.rt, outputs)?;
     let due = due_by(&slip, site.clock());
     let heard = match chosen {

@@ -5,13 +5,14 @@ use crate::ending::{End, Ending};
 use crate::log::Log;
 use crate::notice::{Notice, Reason, VisibleText};
 use crate::pace::Pace;
+use crate::spread::Spread;
 use crate::station::{Station, Wake};
 use config::{Config, Own};
 use connection_parts::{Tally, Timepiece};
 use mc_types::{Moment, NodeNo};
 use node_workers::Slip;
 use pdu_codec::SystemId;
-use std::alloc::Global;
+use std::alloc::{AllocError, Global};
 use std::rt::Clock;
 use std::sync::atomic::{AtomicBool, AtomicU64, Ordering};
 use std::sync::{Arc, Mutex, Wait};
@@ -168,6 +169,16 @@ impl House {
                 return;
             }
         }
+    }
+
+    /// Which accounts are up at which nodes. It takes the locks of all sites, one after another. An `Err` is want of memory.
+    pub(crate) fn spread<R: Wait>(&self, rt: &R) -> Result<Spread, AllocError> {
+        let mut up = Vec::new(self.alloc);
+        for station in &self.stations {
+            let accounts = station.site.lock(rt).accounts_up()?;
+            up.push(accounts)?;
+        }
+        Ok(Spread { up })
     }
 
     /// The greatest number of a packet that nodes were told of.

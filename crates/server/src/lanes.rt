@@ -98,6 +98,11 @@ impl Lanes {
         self.lanes.len()
     }
 
+    /// Whether none waits.
+    pub(crate) fn is_empty(&self) -> bool {
+        self.waiting.is_empty()
+    }
+
     /// Whether a message waits.
     pub(crate) fn has(&self, id: MsgId) -> bool {
         self.waiting.contains(&id.number())
@@ -120,6 +125,14 @@ impl Lanes {
     pub(crate) fn first(&self, place: usize, long: bool) -> Option<MsgId> {
         let waiter = self.lanes.get(place)?.queue(long).front()?;
         Some(waiter.id)
+    }
+
+    /// How many messages wait for this account.
+    pub(crate) fn count(&self, account: &SystemId) -> usize {
+        match self.lanes.iter().find(|lane| lane.account == *account) {
+            Some(lane) => lane.long.len().saturating_add(lane.short.len()),
+            None => 0,
+        }
     }
 
     /// Whether the message that came first to a lane has a long text.

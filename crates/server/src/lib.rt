@@ -2,6 +2,7 @@
 #![tactic(auto)]
 
 mod attending;
+mod backlog;
 mod beat;
 mod bell;
 mod berth;
@@ -21,6 +22,7 @@ mod log;
 mod notice;
 mod pace;
 mod parts;
+mod presence;
 mod reading;
 mod rounds;
 mod seat_pool;
@@ -28,6 +30,7 @@ mod serving;
 mod shared;
 mod shift;
 mod site;
+mod spread;
 mod starting;
 mod station;
 mod ticking;

@@ -2,23 +2,30 @@
 
 ghost use Rattle.std.specs.Prelude.{◌≡◌};
 
+use crate::backlog::{Backlog, Naming};
 use crate::berth::Berth;
 use crate::carriage::Carriage;
+use crate::clock::Mark;
 use crate::connection::Connection;
 use crate::lanes::Lanes;
 use crate::notice::{Reason, Whom};
+use crate::presence::Presence;
 use crate::starting::Arrival;
 use connection_parts::{Job, Tally};
 use esme_service::{Sending, Service};
 use fate_chain::Chain;
 use mc_types::{Moment, MsgId, Slot};
-use node_workers::{Attempt, Outputs};
+use node_workers::{Attempt, MayBegin, MessageIds, Outputs, Reach};
 use pdu_codec::{Pdu, SystemId};
-use sessions::{Delivery, Outgoing, Pushed};
+use sessions::{Delivery, Outgoing, Pushed, WINDOW};
 use std::alloc::{AllocError, Global};
 use std::collections::BTreeMap;
+use std::rt::Clock;
 use std::sync::{Arc, Wait};
 use waiting_requests::{Answer, Reply};
+
+/// How long a node with few message_ids left waits for a quiet moment in which to start anew, in milliseconds.
+const PATIENCE: u64 = 30_000;
 
 /// How many deliver_sm go out for an account one after another at most: more than all windows of a node have places.
 const MOST_PUSHED: usize = 1_000;
@@ -32,9 +39,13 @@ pub(crate) struct Site {
     connections: BTreeMap<u8, Arc<Connection>>,
     carried: BTreeMap<u64, Carriage>,
     pub(crate) lanes: Lanes,
+    pub(crate) backlog: Backlog,
+    presence: Presence,
     // Behind which message those come that are looked at next; none if no look is under way.
     fed: Option<MsgId>,
     clock: Moment,
+    // Since when the node has few message_ids left, if it has.
+    low: Option<Mark>,
     pub(crate) tally: Tally,
 }
 
@@ -47,8 +58,11 @@ impl Site {
             connections: BTreeMap::new(alloc),
             carried: BTreeMap::new(alloc),
             lanes: Lanes::none(alloc),
+            backlog: Backlog::none(alloc),
+            presence: Presence::none(alloc),
             fed: None,
             clock,
+            low: None,
             tally: Tally::zero(),
         }
     }
@@ -152,22 +166,39 @@ impl Site {
     /// What a step of the node gave out goes out: replies, and then receipts. An `Err` is want of memory: whose reply then does not go out has lost its
     /// connection.
     pub(crate) fn tell<R: Wait>(&mut self, rt: &R, outputs: &Outputs) -> Result<(), AllocError> {
-        if outputs.replies.is_empty() && outputs.receipts.is_empty() {
-            return Ok(());
-        }
-        let Ok(told) = outputs.copy() else {
-            self.lose_all(rt, Reason::NoMemory);
-            return Err(AllocError);
-        };
-        let Outputs {
-            replies,
-            receipts,
-            ..
-        } = told;
+        let replied = self.reply_all(rt, &outputs.replies);
+        let reported = self.report_all(rt, &outputs.receipts);
+        replied?;
+        reported
+    }
+
+    /// Replies go out. An `Err` is want of memory for one of them, whose session is lost; the others went out.
+    fn reply_all<R: Wait>(&mut self, rt: &R, replies: &[Reply]) -> Result<(), AllocError> {
+        let mut replied = Ok(());
         for reply in replies {
-            self.reply(rt, reply);
+            match reply.copy() {
+                Ok(copy) => self.reply(rt, copy),
+                Err(fault) => {
+                    self.lose_holder(rt, reply.ticket);
+                    replied = Err(fault);
+                }
+            }
         }
-        self.report_all(rt, receipts)
+        replied
+    }
+
+    /// The session is lost that holds a ticket, if one does: there is no memory for its reply.
+    fn lose_holder<R: Wait>(&self, rt: &R, ticket: u64) {
+        for (number, session) in self.service.sessions() {
+            if session
+                .requests()
+                .iter()
+                .any(|request| request.ticket == ticket)
+            {
+                self.lose(rt, *number, Reason::NoMemory);
+                return;
+            }
+        }
     }
 
     /// A reply goes out on the session that holds its ticket. That is lost if there is no memory for it.
@@ -180,11 +211,19 @@ impl Site {
         }
     }
 
-    fn report_all<R: Wait>(&mut self, rt: &R, chains: Vec<Chain>) -> Result<(), AllocError> {
+    /// Receipts are due. An `Err` is want of memory for one of them; the others are told.
+    fn report_all<R: Wait>(&mut self, rt: &R, chains: &[Chain]) -> Result<(), AllocError> {
+        let mut reported = Ok(());
         for chain in chains {
-            self.report(rt, chain)?;
+            let is_told = match chain.copy() {
+                Ok(copy) => self.report(rt, copy),
+                Err(fault) => Err(fault),
+            };
+            if let Err(fault) = is_told {
+                reported = Err(fault);
+            }
         }
-        Ok(())
+        reported
     }
 
     /// A receipt is due: it waits for its account, and goes out if it can.
@@ -231,6 +270,57 @@ impl Site {
             self.post_for(rt, account)?;
         }
         Ok(())
+    }
+
+    // Attempts.
+
+    /// What a tick is told: the accounts of which a session may receive, and for each of them the messages of which an attempt may begin next, twice as many at
+    /// most as its sessions have places, with those that wait for a worker or for their answer. An account of which none may counts as one of which one may for
+    /// so many seconds, with no message named, so that no attempt that waits for it fails; but not if all messages may begin. An `Err` is want of memory.
+    pub(crate) fn reach(
+        &mut self,
+        naming: &Naming<'_>,
+        linger_seconds: u32,
+    ) -> Result<Reach, AllocError> {
+        let mut up = self.service.accounts_up()?;
+        self.presence
+            .see(&up, naming.now.seconds(), linger_seconds)?;
+        if !self.backlog.was_whole() {
+            return Ok(Reach::of_all(up));
+        }
+        let mut named = MessageIds::none(self.alloc);
+        for account in &up {
+            let most = self.wanted(account);
+            self.backlog.name(naming, account, most, &mut named)?;
+        }
+        self.presence.append_absent(&mut up)?;
+        Ok(Reach {
+            up,
+            may: MayBegin::These(named),
+        })
+    }
+
+    /// Whether an attempt of more messages of the account of a session may begin, and one is due: fewer wait for a worker than it has places.
+    pub(crate) fn is_hungry(&self, number: u8) -> bool {
+        match self.service.account(number) {
+            Some(account) => {
+                self.wanted(account) > WINDOW && self.backlog.is_due(account, self.clock)
+            }
+            None => false,
+        }
+    }
+
+    /// Of how many more messages of an account an attempt may begin.
+    fn wanted(&self, account: &SystemId) -> usize {
+        let mut places = 0usize;
+        let mut taken = self.lanes.count(account);
+        for (_, session) in self.service.sessions() {
+            if session.state().may_receive() && session.account() == Some(account) {
+                places = places.saturating_add(WINDOW);
+                taken = taken.saturating_add(session.pushed().len());
+            }
+        }
+        places.saturating_mul(2).saturating_sub(taken)
     }
 
     // Deliveries.
@@ -515,9 +605,23 @@ impl Site {
         }
     }
 
-    /// Whether a request or a delivery waits.
+    /// Whether a request or a delivery waits, or an attempt for a worker.
     pub(crate) fn is_busy(&self) -> bool {
-        self.carries_some() || self.waiting() > 0
+        self.carries_some() || self.waiting() > 0 || !self.lanes.is_empty()
+    }
+
+    /// The node has few message_ids left, or not; whether it has had for so long that it waits for no quiet moment any more.
+    pub(crate) fn has_few<R: Clock>(&mut self, rt: &R, is_low: bool) -> bool {
+        if !is_low {
+            self.low = None;
+            return false;
+        }
+        let since = match self.low {
+            Some(since) => since,
+            None => Mark::now(rt),
+        };
+        self.low = Some(since);
+        since.is_past(rt, PATIENCE)
     }
 
     /// How many requests wait for the node's answer.

@@ -1,5 +1,6 @@
 //! The ticks of a node.
 
+use crate::backlog::Naming;
 use crate::beat::Beat;
 use crate::clock::Mark;
 use crate::ending::Ending;
@@ -89,7 +90,7 @@ pub(crate) fn tick_on<S: StableStore, L: Begins, R: Wait + Eprint + Clock>(
         wait_for_rounds(shift);
         beat.pass(shift.rt, nodes);
         let is_at_once = wait_for_turn(shift, &beat);
-        start_anew_if_low(shift, &mut beat, is_at_once);
+        start_anew_if_low(shift, is_at_once);
         if shift.is_over() {
             break;
         }
@@ -133,16 +134,17 @@ fn wait_for_turn<S: StableStore, L: Begins, R: Wait + Eprint + Clock>(
 /// then may be lost. It is asked a second behind the rounds of a tick, when the attempts that these began have been made, or else as it is about to tick at once.
 fn start_anew_if_low<S: StableStore, L: Begins, R: Wait + Eprint + Clock>(
     shift: &Shift<'_, S, L, R>,
-    beat: &mut Beat,
     is_at_once: bool,
 ) {
     let is_low = shift.has_few_serials();
-    let waits_no_more = beat.has_few(shift.rt, is_low);
-    if !is_low {
+    let mut site = shift.station.site.lock(shift.rt);
+    let waits_no_more = site.has_few(shift.rt, is_low);
+    let is_busy = is_at_once || site.is_busy();
+    drop(site);
+    if !is_low || shift.is_over() {
         return;
     }
     let house = &shift.shared.house;
-    let is_busy = is_at_once || shift.station.site.lock(shift.rt).is_busy();
     let is_through = house.have_come(house.newest());
     if (!is_busy && is_through) || waits_no_more {
         shift.station.anew.run_low();
@@ -235,11 +237,22 @@ fn tick<S: StableStore, L: Begins, R: Wait + Eprint + Clock>(
     let next = shift.station.next.load(Ordering::SeqCst);
     shift.station.bell.tick(next);
     let moment = shift.shared.house.now(shift.rt);
+    let spread = shift.shared.house.spread(shift.rt)?;
+    let node = shift.node();
     let mut guard = shift.station.site.lock(shift.rt);
     let site = &mut *guard;
-    let up = site.accounts_up()?;
-    let node = shift.node();
-    let tick = Action::Tick { node, moment, up };
+    let own = shift.shared.house.own;
+    let naming = Naming {
+        node,
+        now: moment,
+        spread: &spread,
+    };
+    let reach = site.reach(&naming, own.linger_seconds)?;
+    let tick = Action::Tick {
+        node,
+        moment,
+        reach,
+    };
     let slip = shift.shared.cluster.act(shift.rt, seat, tick)?;
     shift.shared.house.ring(shift.rt, &slip);
     shift.station.has_ticked.store(true, Ordering::SeqCst);
@@ -248,9 +261,8 @@ fn tick<S: StableStore, L: Begins, R: Wait + Eprint + Clock>(
     site.tell(shift.rt, slip.outputs())?;
     drop(slip);
     site.make_room(shift.rt)?;
-    let seconds = shift.shared.house.own.bind_seconds;
-    if seconds > 0 {
-        site.lose_unbound(shift.rt, seconds);
+    if own.bind_seconds > 0 {
+        site.lose_unbound(shift.rt, own.bind_seconds);
     }
     shift.feed(site)?;
     if begins_look || site.fed().is_some() {

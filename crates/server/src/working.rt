@@ -100,7 +100,7 @@ fn heard_in(job: &Job) -> Heard
     }
 }
 
-/// The place of a delivery on its session is free: others may be made.
+/// The place of a delivery on its session is free: others may be made, and the node ticks at once if it is to begin more.
 fn free<S: StableStore, L: Begins, R: Wait + Eprint + Clock>(
     shift: &Shift<'_, S, L, R>,
     connection: &Connection,
@@ -110,7 +110,13 @@ fn free<S: StableStore, L: Begins, R: Wait + Eprint + Clock>(
     let mut guard = shift.station.site.lock(shift.rt);
     let site = &mut *guard;
     site.delivered(connection, job, is_sent);
-    shift.feed_session(site, job.pushed.number)
+    let fed = shift.feed_session(site, job.pushed.number);
+    let is_hungry = site.is_hungry(job.pushed.number);
+    drop(guard);
+    if is_hungry {
+        shift.station.bell.call(shift.rt, 0);
+    }
+    fed
 }
 
 /// The packets that the last step of a seat sent are handed in to all nodes.

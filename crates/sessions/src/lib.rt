@@ -20,5 +20,5 @@ pub use reaction::Reaction;
 pub use request::OpenRequest;
 pub use requested::Requested;
 pub use response::{Outgoing, Response, encoded, pdu_with};
-pub use session::{Session, sequence_after};
+pub use session::{Session, WINDOW, sequence_after};
 pub use state::SessionState;

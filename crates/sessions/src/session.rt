@@ -28,8 +28,8 @@ use std::alloc::{AllocError, Global};
 use std::marker::Model;
 use std::mem;
 
-/// How many requests may wait, each way.
-const WINDOW: usize = 10;
+/// How many requests may wait at a session, each way.
+pub const WINDOW: usize = 10;
 /// The first sequence_number of the centre, and the last, after which the first comes again (SMPP 3.4, section 5.1.4).
 const FIRST_SEQUENCE: u32 = 1;
 

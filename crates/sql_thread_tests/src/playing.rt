@@ -48,7 +48,14 @@ fn take<L: Begins, R: Wait + Abort>(
             };
             hands.act(rt, cluster, action)
         }
-        Input::Tick(moment, up) => hands.act(rt, cluster, Action::Tick { node, moment, up }),
+        Input::Tick(moment, reach) => {
+            let action = Action::Tick {
+                node,
+                moment,
+                reach,
+            };
+            hands.act(rt, cluster, action)
+        }
         Input::Grant(id) => attempts.grant(rt, cluster, hands, (node, id)),
         Input::Answered(_, outcome) => attempts.answer(rt, cluster, hands, outcome),
         Input::Packet(_) => panic!(rt; "packets come by their numbers"),

@@ -9,6 +9,7 @@ use Rattle.std.specs.Option.{unwrap_or}
 use Rattle.std.specs.Ordering.{nat_cmp}
 use Rattle.std.specs.BTreeMap.{is_at}
 use Rattle.std.proofs.lemmas.List.{length-map}
+use Rattle.mc_model.specs.node.Reach.{of_all}
 use Rattle.mc_model.specs.message.Decree.{Decree, Kind, Told}
 use Rattle.mc_model.specs.synod.Lists.{In}
 use Rattle.mc_model.specs.node.Input.{Tick}
@@ -195,10 +196,10 @@ module _ (first validity : ℕ) (k : Kept) (t0 : TableNode) (moment : ℕ) (up :
   abbrev k1 : Kept
   k1 = record k { clock = clock; held = []; messages = map without_round k.messages }
 
-  begun_is : stepped setup k (Tick moment up) ≡ sends (ruled_each setup up ids k1).kept (ruled_each setup up ids k1).packets [] []
+  begun_is : stepped setup k (Tick moment (of_all up)) ≡ sends (ruled_each setup (of_all up) ids k1).kept (ruled_each setup (of_all up) ids k1).packets [] []
   begun_is =
-      let works : stepped setup k (Tick moment up) ≡ tick_then setup
-      (record k { clock = clock; held = filter (λ h. not (is_late clock h)) k.held; messages = map without_round k.messages }) up
+      let works : stepped setup k (Tick moment (of_all up)) ≡ tick_then setup
+      (record k { clock = clock; held = filter (λ h. not (is_late clock h)) k.held; messages = map without_round k.messages }) (of_all up)
       (map late_reply (filter (is_late clock) k.held)) = rw resting.up refl in
       works
       ∙ ((λ i. tick_then setup (record k {
@@ -206,9 +207,9 @@ module _ (first validity : ℕ) (k : Kept) (t0 : TableNode) (moment : ℕ) (up :
         held = filter (λ (h : Held). not (is_late clock h)) (resting.waits i);
         messages =
             map without_round k.messages;
-      }) up
+      }) (of_all up)
       (map late_reply (filter (is_late clock) (resting.waits i))))
-      ∙ ap (λ (xs : List ℕ). rules_then setup k1 [] (ruled_each setup up xs k1))
+      ∙ ap (λ (xs : List ℕ). rules_then setup k1 [] (ruled_each setup (of_all up) xs k1))
       (keys_mapped (λ (m : Message). record m { round = None }) k.messages ∙ resting.ids))
 
   message_ticked : (id : ℕ) → message_at k1 id ≡ message_at k id
@@ -321,7 +322,7 @@ module _ (first validity : ℕ) (k : Kept) (t0 : TableNode) (moment : ℕ) (up :
       let entries : length (ticked t0 moment up).table ≡ length t0.table = length-map t0.table (λ (e : ℕ × Entry). (e.0, entry_then t up e.1)) in
       omega (arith, most, listed, entries)
 
-  pub tick_settles : SettlesOn setup (stepped setup k (Tick moment up)) (ticked t0 moment up) [] (receipts_ticked t0 moment up)
+  pub tick_settles : SettlesOn setup (stepped setup k (Tick moment (of_all up))) (ticked t0 moment up) [] (receipts_ticked t0 moment up)
   tick_settles =
       settles_after setup _ _ (ticked t0 moment up) [] (receipts_ticked t0 moment up)
       (begun_is ∙ ap (λ (p : Prepared). sends p.kept p.packets [] []) begun.prepared)

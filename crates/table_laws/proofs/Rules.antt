@@ -2,6 +2,7 @@
 use Rattle.std.proofs.Common.{◌≡◌, ℕ, Bool, true, false, List, [], ◌∷◌, length, max, Option, Some, None, refl, sym, ap, subst, ◌∙◌}
 use Rattle.std.specs.Prelude.{◌==◌, ◌&&◌, ◌+◌, ◌*◌, not, nat_le, nat_lt, if◌then◌else◌}
 use Rattle.std.specs.Option.{option_or}
+use Rattle.mc_model.specs.node.Reach.{of_all}
 use Rattle.mc_model.specs.message.Submission.{Submission}
 use Rattle.mc_model.specs.message.Decree.{Attempt, Decree, Expired, Failed, Fate, Told, Kind, Taken, Undeliverable, Author}
 use Rattle.mc_model.specs.message.Chain.{attempts_in, taken_in}
@@ -124,7 +125,7 @@ module _ (first validity : ℕ) (k : Kept) (t0 : TableNode) (id : ℕ) (up : Lis
     own_as Told = rw (undeleted (newest Told) older, none_so Try target) tt
 
   known_fits : (chain : List Decree) (granted : Bool) → IsAtRest k id (record { chain = chain; granted = granted }) →
-      Fits chain (known_rule setup k up id (known_as chain)) (due_of t up granted chain (taken_in chain))
+      Fits chain (known_rule setup k (of_all up) id (known_as chain)) (due_of t up granted chain (taken_in chain))
   known_fits [] granted rest = tt
   known_fits (newest ∷ older) granted rest =
       rw rest.taken.taken
@@ -141,14 +142,14 @@ module _ (first validity : ℕ) (k : Kept) (t0 : TableNode) (id : ℕ) (up : Lis
         ∙ (ap (follow (known_as entry.chain)) (sym (higher_than_none (told_of k.records id))) ∙ (told_is_reached k id entry.chain rest.ready).unfollowed))
 
     -- the first rule that fits
-    first_as : Fits entry.chain (first_rule setup k up id) (due t up entry)
+    first_as : Fits entry.chain (first_rule setup k (of_all up) id) (due t up entry)
     first_as = rw (untaken, unfollowed, rest.ready.known) (known_fits entry.chain entry.granted rest)
 
 -- by the clock and the incarnation of the table
 pub first_fits : (first validity : ℕ) (k : Kept) (t : TableNode) (id : ℕ) (up : List ℕ → Bool) → k.held ≡ [] →
     k.incarnation ≡ t.incarnation → k.clock ≡ t.clock →
-    (entry : Entry) → IsAtRest k id entry → FitsAs first validity id t entry.chain (first_rule (alone first validity) k up id) (due t up entry)
+    (entry : Entry) → IsAtRest k id entry → FitsAs first validity id t entry.chain (first_rule (alone first validity) k (of_all up) id) (due t up entry)
 first_fits first validity k t id up held incarnation clock entry rest =
-    subst (λ (n : TableNode). FitsAs first validity id n entry.chain (first_rule (alone first validity) k up id) (due n up entry))
+    subst (λ (n : TableNode). FitsAs first validity id n entry.chain (first_rule (alone first validity) k (of_all up) id) (due n up entry))
     (λ i. record t { incarnation = incarnation i; clock = clock i })
     (first_as first validity k t id up held entry rest)

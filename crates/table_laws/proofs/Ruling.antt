@@ -3,6 +3,7 @@ use Rattle.std.proofs.Common.{◌≡◌, ℕ, pred, ◌<◌, List, [], ◌∷◌
 use Rattle.std.specs.Ordering.{nat_cmp}
 use Rattle.std.specs.Map.{keys_of}
 use Rattle.std.specs.BTreeSet.{insert_key}
+use Rattle.mc_model.specs.node.Reach.{of_all}
 use Rattle.mc_model.specs.message.Decree.{Decree, Kind}
 use Rattle.mc_model.specs.message.Chain.{taken_in}
 use Rattle.mc_model.specs.message.Submission.{Submission}
@@ -129,14 +130,14 @@ module _ (first validity : ℕ) (t : TableNode) (up : List ℕ → Bool) where
 
   pub record Ruled (ids : List ℕ) (k : Kept) : Type 0 where
     pub new : Kept
-    pub prepared : ruled_each setup up ids k ≡ record { kept = new; packets = map (prepares first validity t) (rounds_of t up ids) }
+    pub prepared : ruled_each setup (of_all up) ids k ≡ record { kept = new; packets = map (prepares first validity t) (rounds_of t up ids) }
     pub each : Each (Goes t (begun first validity t) (untouched first validity t)) new (rounds_of t up ids)
     pub same : IsSameApart (rounds_of t up ids) k new
 
   -- with what is due for the first of them
   record RuledBy (id : ℕ) (ids : List ℕ) (k : Kept) (kind : Option Kind) : Type 0 where
     new : Kept
-    prepared : ruled_each setup up (id ∷ ids) k
+    prepared : ruled_each setup (of_all up) (id ∷ ids) k
         ≡ record { kept = new; packets = map (prepares first validity t) (round_if t up id (entry_at t.table id) kind ++ rounds_of t up ids) }
     each : Each (Goes t (begun first validity t) (untouched first validity t)) new (round_if t up id (entry_at t.table id) kind ++ rounds_of t up ids)
     same : IsSameApart (round_if t up id (entry_at t.table id) kind ++ rounds_of t up ids) k new
@@ -150,7 +151,7 @@ module _ (first validity : ℕ) (t : TableNode) (up : List ℕ → Bool) where
   -- the round for what is due has started
   record StartsOne (id : ℕ) (k : Kept) (next : Next) : Type 0 where
     new : Kept
-    prepared : ruled setup k id (first_rule setup k up id) ≡ record { kept = new; packets = prepares first validity t next ∷ [] }
+    prepared : ruled setup k id (first_rule setup k (of_all up) id) ≡ record { kept = new; packets = prepares first validity t next ∷ [] }
     goes : Goes t (begun first validity t) (untouched first validity t) new next
     same : IsSameBut id k new
     held : new.held ≡ k.held
@@ -166,10 +167,10 @@ module _ (first validity : ℕ) (t : TableNode) (up : List ℕ → Bool) where
     abbrev decree : Decree
     decree = decree_by t old kind
 
-    found : Found first validity id t old kind (first_rule setup k up id)
+    found : Found first validity id t old kind (first_rule setup k (of_all up) id)
     found =
-        found_fits first validity id t old kind (first_rule setup k up id)
-        (subst (FitsAs first validity id t old (first_rule setup k up id)) is (first_fits first validity k t id up waits incarnation clock entry rest))
+        found_fits first validity id t old kind (first_rule setup k (of_all up) id)
+        (subst (FitsAs first validity id t old (first_rule setup k (of_all up) id)) is (first_fits first validity k t id up waits incarnation clock entry rest))
 
     some : 0 < length old
     some = some_chain t up entry.granted old (taken_in old) kind is
@@ -213,12 +214,12 @@ module _ (first validity : ℕ) (t : TableNode) (up : List ℕ → Bool) where
     }
 
   -- of all messages
-  then_none : (id : ℕ) (ids : List ℕ) (k : Kept) → ruled setup k id (first_rule setup k up id) ≡ record { kept = k; packets = [] } → Ruled ids k →
+  then_none : (id : ℕ) (ids : List ℕ) (k : Kept) → ruled setup k id (first_rule setup k (of_all up) id) ≡ record { kept = k; packets = [] } → Ruled ids k →
       due t up (entry_at t.table id) ≡ None → RuledBy id ids k None
   then_none id ids k none others is = record {
     new = others.new;
     prepared =
-        ap (λ (p : Prepared). and_then p (ruled_each setup up ids p.kept)) none
+        ap (λ (p : Prepared). and_then p (ruled_each setup (of_all up) ids p.kept)) none
         ∙ ap (and_then (record { kept = k; packets = [] })) others.prepared;
     each = others.each;
     same = others.same;
@@ -229,7 +230,7 @@ module _ (first validity : ℕ) (t : TableNode) (up : List ℕ → Bool) where
   then_some id ids k kind away listed one others = record {
     new = others.new;
     prepared =
-        ap (λ (p : Prepared). and_then p (ruled_each setup up ids p.kept)) one.prepared
+        ap (λ (p : Prepared). and_then p (ruled_each setup (of_all up) ids p.kept)) one.prepared
         ∙ ap (and_then (record { kept = one.new; packets = prepares first validity t (next_at t up id (entry_at t.table id) kind) ∷ [] })) others.prepared;
     each = (
       goes_apart t (begun first validity t) (untouched first validity t) (rounds_of t up ids) one.new others.new others.same
@@ -260,8 +261,8 @@ module _ (first validity : ℕ) (t : TableNode) (up : List ℕ → Bool) where
           RuledBy id ids k kind
       by_due None is others after =
           then_none id ids k
-          (ap (ruled setup k id) (none_fits first validity id t (entry_at t.table id).chain (first_rule setup k up id)
-          (subst (FitsAs first validity id t (entry_at t.table id).chain (first_rule setup k up id)) is
+          (ap (ruled setup k id) (none_fits first validity id t (entry_at t.table id).chain (first_rule setup k (of_all up) id)
+          (subst (FitsAs first validity id t (entry_at t.table id).chain (first_rule setup k (of_all up) id)) is
           (first_fits first validity k t id up ticking.waits ticking.incarnation ticking.clock (entry_at t.table id) ticking.rest.0)))) others is
       by_due (Some kind) is others after =
           let one = starts_one id k kind ticking.waits ticking.incarnation ticking.clock ticking.rest.0 is in

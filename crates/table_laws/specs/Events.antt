@@ -4,6 +4,7 @@ use Rattle.mc_model.specs.node.Actor.{Request}
 use Rattle.mc_model.specs.node.Input.{Arrival, Grant, Input, Refusal, Response, Tick}
 use Rattle.mc_model.specs.node.Outcome.{Outcome}
 use Rattle.mc_model.specs.node.Outputs.{Receipt, Reply}
+use Rattle.mc_model.specs.node.Reach.{of_all}
 use Rattle.mc_model.specs.node.Setup.{Setup}
 use Rattle.node_model.specs.Kept.{Kept}
 use Rattle.node_model.specs.Stepped.{stepped}
@@ -33,7 +34,7 @@ MayHappen t (Concludes id outcome) = 0 < length (chain_at t.table id)
 abbrev pub input_of : TableNode → Event → Input
 input_of t (Requests request) = Arrival request
 input_of t (Refuses status) = Refusal status
-input_of t (Ticks moment up) = Tick moment up
+input_of t (Ticks moment up) = Tick moment (of_all up)
 input_of t (Grants id) = Grant (newest_slot t id)
 input_of t (Concludes id outcome) = Response (newest_slot t id) outcome
 

@@ -1,6 +1,7 @@
 //! A tick comes to a node by itself.
 
 ghost use Rattle.std.specs.Prelude.{◌≡◌, ℕ, Bool, List, []};
+ghost use Rattle.mc_model.specs.node.Reach.{of_all};
 ghost use Rattle.mc_model.specs.node.Input.{Tick};
 ghost use Rattle.node_model.specs.Kept.{Kept};
 ghost use Rattle.node_model.specs.Stepped.{stepped};
@@ -16,6 +17,6 @@ ghost use Rattle.table_laws.specs.Settling.{SettlesOn};
 /// else has changed. Nobody is answered, and a receipt goes out for each message whose receipt is told.
 pub fn a_tick_settles()
     ensures { (first_serial default_validity : ℕ) (k : Kept) (t : TableNode) → IsResting k t → (moment : ℕ) (up : List ℕ → Bool) →
-        SettlesOn (alone first_serial default_validity) (stepped (alone first_serial default_validity) k (Tick moment up)) (ticked t moment up)
+        SettlesOn (alone first_serial default_validity) (stepped (alone first_serial default_validity) k (Tick moment (of_all up))) (ticked t moment up)
         [] (receipts_ticked t moment up) }
 {}

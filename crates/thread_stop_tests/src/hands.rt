@@ -2,7 +2,7 @@
 
 use lines_of_tests::{account, node, request};
 use mc_types::{Moment, NodeNo};
-use node_threads::{Action, Begins, Cluster, Refusal, Seat, Slip};
+use node_threads::{Action, Begins, Cluster, Reach, Refusal, Seat, Slip};
 use stable_store::StableStore;
 use std::alloc::Global;
 use std::process::Abort;
@@ -48,7 +48,7 @@ pub fn ticked<S: StableStore, L: Begins, R: Wait + Abort>(
     let tick = Action::Tick {
         node: numbered(rt, 1),
         moment: Moment::least(),
-        up,
+        reach: Reach::of_all(up),
     };
     cluster.act(rt, seat, tick)
 }

@@ -2,7 +2,7 @@
 
 use lines_of_tests::{account, node, request};
 use mc_types::{Moment, NodeNo};
-use node_threads::{Action, Begins, Cluster, Journal, Refusal, Seat, Slip};
+use node_threads::{Action, Begins, Cluster, Journal, Reach, Refusal, Seat, Slip};
 use stable_store::ListStore;
 use std::alloc::Global;
 use std::process::Abort;
@@ -44,7 +44,7 @@ pub fn ticked<L: Begins, R: Wait + Abort>(
     let tick = Action::Tick {
         node: numbered(rt, node),
         moment: Moment::least(),
-        up,
+        reach: Reach::of_all(up),
     };
     cluster.act(rt, seat, tick).expect(rt, "a slip")
 }

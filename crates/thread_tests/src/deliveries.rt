@@ -14,7 +14,7 @@ use delivery::Outcome;
 use lines_of_tests::{account, request};
 use mc_types::Moment;
 use node_core::{Life, Node};
-use node_threads::{Action, Begins, Cluster, Entry, Journal, Seat};
+use node_threads::{Action, Begins, Cluster, Entry, Journal, Reach, Seat};
 use node_workers::{hint, worker};
 use stable_store::ListStore;
 use std::alloc::Global;
@@ -72,7 +72,7 @@ fn handed_in<L: Begins, R: Wait + Abort>(
     let tick = Action::Tick {
         node: first(rt),
         moment: Moment::least(),
-        up,
+        reach: Reach::of_all(up),
     };
     drop(cluster.act(rt, seat, tick).expect(rt, "a slip"));
     let _chosen = settled(rt, cluster, seat, taken);

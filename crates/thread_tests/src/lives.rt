@@ -10,7 +10,7 @@ use delivery::Outcome;
 use lines_of_tests::{account, first_id, request};
 use mc_types::Moment;
 use node_core::{Life, Node};
-use node_threads::{Action, Begins, Cluster, Seat};
+use node_threads::{Action, Begins, Cluster, Reach, Seat};
 use stable_store::ListStore;
 use std::alloc::Global;
 use std::marker::Brand;
@@ -46,7 +46,7 @@ pub fn attempted<L: Begins, R: Wait + Abort>(
     let tick = Action::Tick {
         node: first(rt),
         moment: Moment::least(),
-        up,
+        reach: Reach::of_all(up),
     };
     drop(cluster.act(rt, seat, tick).expect(rt, "a slip"));
 }

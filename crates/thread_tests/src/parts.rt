@@ -4,7 +4,7 @@ ghost use Rattle.std.specs.Prelude.{◌≡◌, false, true};
 ghost use Rattle.node_core.specs.Nodes.{IsLifeOf};
 ghost use Rattle.node_core.specs.Permits.{is_life_of};
 ghost use Rattle.journal_parts.specs.Members.{IsAct, IsBeginning};
-ghost use Rattle.world.specs.Runs.{node_at};
+ghost use Rattle.world.specs.Taking.{node_at};
 ghost use Rattle.journal_parts.specs.Numbers.{none_sent};
 
 use crate::same::assert_same;
@@ -19,7 +19,7 @@ use std::alloc::Global;
 use std::marker::Brand;
 use std::process::Abort;
 use std::sync::ledger::Blank;
-use world::Step;
+use world::{Reach, Step};
 
 /// Takes a step of a node, and enters it in the journal.
 fn taken<L: Begins>(
@@ -83,7 +83,7 @@ fn attempted<L: Begins>(
     let step = Step::Tick {
         node: member.node(),
         moment: Moment::least(),
-        up,
+        reach: Reach::of_all(up),
     };
     let slip = taken(rt, member, register, seat, step);
     numbers(&slip)

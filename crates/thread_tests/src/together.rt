@@ -8,7 +8,7 @@ use crate::same::assert_same;
 use crate::tables::{PARTS, first, opened, settled};
 use mc_types::Moment;
 use node_core::Node;
-use node_threads::{Action, Begins, Cluster, Seat};
+use node_threads::{Action, Begins, Cluster, Reach, Seat};
 use stable_store::ListStore;
 use std::alloc::Global;
 use std::marker::Brand;
@@ -29,7 +29,7 @@ fn ticked<L: Begins, R: Wait + Abort>(
         let tick = Action::Tick {
             node: first(rt),
             moment: Moment::least(),
-            up: Vec::new(alloc),
+            reach: Reach::of_all(Vec::new(alloc)),
         };
         drop(cluster.act(rt, seat, tick).expect(rt, "a slip"));
     }

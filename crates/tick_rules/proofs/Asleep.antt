@@ -18,11 +18,12 @@ use Rattle.fate_chain.specs.declared.decree.Author.{Author}
 use Rattle.tick_rules.specs.declared.attempted.Attempted.{Attempted}
 use Rattle.tick_rules.specs.declared.due.Due.{Due}
 use Rattle.tick_rules.specs.declared.due.Due.TheVariants as dues
+use Rattle.tick_rules.specs.declared.reached.Reached.{Reached}
 use Rattle.tick_rules.specs.declared.standpoint.Standpoint.{Standpoint}
 use Rattle.tick_rules.specs.Attempts.{attempted_at, closed_as}
 use Rattle.tick_rules.specs.Dues.{IsDueBehind, own_rule, start_for}
 use Rattle.tick_rules.specs.Standpoints.{kept_of, setup_of}
-use Rattle.tick_rules.specs.Waking.{IsUntilBehind, IsWaitBehind, begins, last_moment, until_behind, waits_until}
+use Rattle.tick_rules.specs.Waking.{IsUntilBehind, IsWaitBehind, at_first, last_moment, until_behind, waits_until}
 
 -- ---- of an attempt no rule asks for the clock
 
@@ -42,13 +43,13 @@ still_ended false false gives closed c d l m g h none = refl
 
 module _ (s : Standpoint) (a : Attempted) (taken : Submission) (newest : Decree) (older : List Decree) where
   abbrev first : Standpoint
-  first = begins s.author
+  first = at_first s.author
 
   abbrev now : ℕ
   now = moment_behind (kept_of s) newest
 
-  abbrev at_first : ℕ
-  at_first = moment_behind (kept_of first) newest
+  abbrev first_now : ℕ
+  first_now = moment_behind (kept_of first) newest
 
   abbrev attempts : ℕ
   attempts = attempts_in (newest ∷ older)
@@ -69,11 +70,11 @@ module _ (s : Standpoint) (a : Attempted) (taken : Submission) (newest : Decree)
       (option_or (fitting Try (if_so up (tried (setup_of t) (kept_of t) taken newest older kind)))
       (fitting Announce (announced (setup_of t) (kept_of t) taken newest older kind)))))
 
-  taken_still : (of : Submission) (up e d : Bool) → nat_le taken.expiry at_first ≡ e → nat_le taken.schedule at_first ≡ d → answer first up (Taken of) ≡ None →
+  taken_still : (of : Submission) (up e d : Bool) → nat_le taken.expiry first_now ≡ e → nat_le taken.schedule first_now ≡ d → answer first up (Taken of) ≡ None →
       s.clock < waits_until up taken newest older (Taken of) → answer s up (Taken of) ≡ None
   taken_still of up true d expired due none below = absurd (let some = rw expired at none in cc)
   taken_still of true false true expired due none below =
-      let before : nat_lt at_first taken.expiry ≡ true = grind (arith, nat_tests) in
+      let before : nat_lt first_now taken.expiry ≡ true = grind (arith, nat_tests) in
       absurd (let some = rw (expired, due, before) at none in cc)
   taken_still of true false false expired due none below =
       let lasts : nat_le taken.expiry now ≡ false = grind (arith, nat_tests) in
@@ -86,8 +87,8 @@ module _ (s : Standpoint) (a : Attempted) (taken : Submission) (newest : Decree)
   abbrev next : ℕ
   next = newest.moment + retry_delay * attempts
 
-  failed_still : (error : ℕ) (up e m t d : Bool) → nat_le taken.expiry at_first ≡ e → (attempts == most_attempts) ≡ m → nat_lt attempts most_attempts ≡ t →
-      nat_le next at_first ≡ d → answer first up (Failed error) ≡ None →
+  failed_still : (error : ℕ) (up e m t d : Bool) → nat_le taken.expiry first_now ≡ e → (attempts == most_attempts) ≡ m → nat_lt attempts most_attempts ≡ t →
+      nat_le next first_now ≡ d → answer first up (Failed error) ≡ None →
       s.clock < waits_until up taken newest older (Failed error) → answer s up (Failed error) ≡ None
   failed_still error up true m t d expired most more due none below = absurd (let some = rw expired at none in cc)
   failed_still error up false true t d expired most more due none below = absurd (let some = rw (expired, most) at none in cc)
@@ -98,7 +99,7 @@ module _ (s : Standpoint) (a : Attempted) (taken : Submission) (newest : Decree)
       let lasts : nat_le taken.expiry now ≡ false = grind (arith, nat_tests) in
       rw (lasts, most, more) refl
   failed_still error true false false true true expired most more due none below =
-      let before : nat_lt at_first taken.expiry ≡ true = grind (arith, nat_tests) in
+      let before : nat_lt first_now taken.expiry ≡ true = grind (arith, nat_tests) in
       absurd (let some = rw (expired, most, more, before, due) at none in cc)
   failed_still error true false false true false expired most more due none below =
       let lasts : nat_le taken.expiry now ≡ false = grind (arith, nat_tests) in
@@ -120,50 +121,50 @@ module _ (s : Standpoint) (a : Attempted) (taken : Submission) (newest : Decree)
   told_still false false start start_then none = refl
 
   answer_still : (up : Bool) (kind : Kind) → answer first up kind ≡ None → s.clock < waits_until up taken newest older kind → answer s up kind ≡ None
-  answer_still up (Taken of) none below = taken_still of up (nat_le taken.expiry at_first) (nat_le taken.schedule at_first) refl refl none below
+  answer_still up (Taken of) none below = taken_still of up (nat_le taken.expiry first_now) (nat_le taken.schedule first_now) refl refl none below
   answer_still up (Attempt number) none below = nothing_tried up None refl
   answer_still up (Failed error) none below =
-      failed_still error up (nat_le taken.expiry at_first) (attempts == most_attempts) (nat_lt attempts most_attempts) (nat_le next at_first)
+      failed_still error up (nat_le taken.expiry first_now) (attempts == most_attempts) (nat_lt attempts most_attempts) (nat_le next first_now)
       refl refl refl refl none below
   answer_still up (Fate final error) none below =
       told_still up ((s.author.node == home_in (newest ∷ older)) && is_asked final taken) _ _ none
   answer_still up Told none below = nothing_tried up None refl
 
-  own_still : (up : List ℕ → Bool) → own_rule first a false up newest older taken ≡ None →
-      s.clock < waits_until (up taken.target) taken newest older newest.kind → own_rule s a false up newest older taken ≡ None
-  own_still up none below = by_test (is_attempt_by s.author.node newest newest.kind) none
+  own_still : (reached : Reached) → own_rule first a false reached newest older taken ≡ None →
+      s.clock < waits_until reached.begins taken newest older newest.kind → own_rule s a false reached newest older taken ≡ None
+  own_still reached none below = by_test (is_attempt_by s.author.node newest newest.kind) none
     where
       by_test : (test : Bool) →
-          (if test then attempt_rule (setup_of first) (kept_of first) (attempted_at a) (up taken.target) newest older
-          else answer first (up taken.target) newest.kind) ≡ None →
-          (if test then attempt_rule (setup_of s) (kept_of s) (attempted_at a) (up taken.target) newest older
-          else answer s (up taken.target) newest.kind) ≡ None
-      by_test true is = attempt_still (up taken.target) is
-      by_test false is = answer_still (up taken.target) newest.kind is below
+          (if test then attempt_rule (setup_of first) (kept_of first) (attempted_at a) reached.up newest older
+          else answer first reached.begins newest.kind) ≡ None →
+          (if test then attempt_rule (setup_of s) (kept_of s) (attempted_at a) reached.up newest older
+          else answer s reached.begins newest.kind) ≡ None
+      by_test true is = attempt_still reached.up is
+      by_test false is = answer_still reached.begins newest.kind is below
 
 -- ---- of a chain
 
-nothing_at : (author : Author) (a : Attempted) (up : List ℕ → Bool) (newest : Decree) (older : List Decree) (taken : Submission) (until : ℕ) →
-    Some until ≡ until_behind author a up newest older taken → (s : Standpoint) → s.author ≡ author → s.clock < until →
-    None ≡ own_rule s a false up newest older taken
-nothing_at author a up newest older taken until is s by below =
-    by_first (own_rule (begins author) a false up newest older taken) refl is
+nothing_at : (author : Author) (a : Attempted) (reached : Reached) (newest : Decree) (older : List Decree) (taken : Submission) (until : ℕ) →
+    Some until ≡ until_behind author a reached newest older taken → (s : Standpoint) → s.author ≡ author → s.clock < until →
+    None ≡ own_rule s a false reached newest older taken
+nothing_at author a reached newest older taken until is s by below =
+    by_first (own_rule (at_first author) a false reached newest older taken) refl is
   where
-    by_first : (found : Option Fitting) → own_rule (begins author) a false up newest older taken ≡ found →
-        Some until ≡ (if is_some found then None else Some (waits_until (up taken.target) taken newest older newest.kind)) →
-        None ≡ own_rule s a false up newest older taken
+    by_first : (found : Option Fitting) → own_rule (at_first author) a false reached newest older taken ≡ found →
+        Some until ≡ (if is_some found then None else Some (waits_until reached.begins taken newest older newest.kind)) →
+        None ≡ own_rule s a false reached newest older taken
     by_first (Some fit) found at = absurd (cc)
     by_first None found at =
-        let same : until ≡ waits_until (up taken.target) taken newest older newest.kind = cc in
-        sym (own_still s a taken newest older up
-        (ap (λ (me : Author). own_rule (begins me) a false up newest older taken) by ∙ found)
+        let same : until ≡ waits_until reached.begins taken newest older newest.kind = cc in
+        sym (own_still s a taken newest older reached
+        (ap (λ (me : Author). own_rule (at_first me) a false reached newest older taken) by ∙ found)
         (subst (λ (n : ℕ). s.clock < n) same below))
 
-pub nothing_until : (author : Author) (a : Attempted) (up : List ℕ → Bool) (decrees : List Decree) (until : ℕ) → IsUntilBehind author a up decrees (Some until) →
-    (s : Standpoint) → s.author ≡ author → s.clock < until → IsDueBehind s a false up decrees None
-nothing_until author a up [] until is s by below = is
-nothing_until author a up (newest ∷ older) until is s by below = λ taken message.
-    nothing_at author a up newest older taken until (is taken message) s by below
+pub nothing_until : (author : Author) (a : Attempted) (reached : Reached) (decrees : List Decree) (until : ℕ) → IsUntilBehind author a reached decrees (Some until) →
+    (s : Standpoint) → s.author ≡ author → s.clock < until → IsDueBehind s a false reached decrees None
+nothing_until author a reached [] until is s by below = is
+nothing_until author a reached (newest ∷ older) until is s by below = λ taken message.
+    nothing_at author a reached newest older taken until (is taken message) s by below
 
 -- ---- it is found so
 
@@ -194,15 +195,13 @@ failed_until up (first ∷ older) newest error taken attempts until later heads 
     (failed_at up first older error taken attempts until later (sym (ap (λ (d : Decree). d.kind) head) ∙ is) many
     (at ∙ ap (λ (d : Decree). min (d.moment + retry_delay * attempts) last_moment) head) lasts by)
 
-pub until_there : (author : Author) (a : Attempted) (up : List ℕ → Bool) (decrees : List Decree) (taken : Submission) (clock : ℕ) (due : Option Due) (until : ℕ)
-    (is_up : Bool) → clock ≡ 946684800 → IsDueBehind (record { author = author; clock = clock }) a false up decrees due → is_some due ≡ false →
-    taken_in decrees ≡ Some taken → is_up ≡ up taken.target → IsWaitBehind is_up decrees until → IsUntilBehind author a up decrees (Some until)
-until_there author a up [] taken clock due until is_up begun is none message target waits = absurd waits
-until_there author a up (newest ∷ older) taken clock (Some due) until is_up begun is none message target waits = absurd (true≢false none)
-until_there author a up (newest ∷ older) taken clock None until is_up begun is none message target waits = λ other about.
-    let same : taken ≡ other = cc in
-    let found : None ≡ own_rule (begins author) a false up newest older other =
-    is other about ∙ ap (λ (n : ℕ). own_rule (record { author = author; clock = n }) a false up newest older other) begun in
-    let at : up taken.target ≡ up other.target = ap (λ (t : Submission). up t.target) same in
-    ap (λ (n : ℕ). Some n) (waits other about ∙ ap (λ (u : Bool). waits_until u other newest older newest.kind) (target ∙ at))
-    ∙ ap (λ (rule : Option Fitting). if is_some rule then None else Some (waits_until (up other.target) other newest older newest.kind)) found
+pub until_there : (author : Author) (a : Attempted) (reached : Reached) (decrees : List Decree) (clock : ℕ) (due : Option Due) (until : ℕ) →
+    clock ≡ 946684800 → IsDueBehind (record { author = author; clock = clock }) a false reached decrees due → is_some due ≡ false →
+    IsWaitBehind reached.begins decrees until → IsUntilBehind author a reached decrees (Some until)
+until_there author a reached [] clock due until begun is none waits = absurd waits
+until_there author a reached (newest ∷ older) clock (Some due) until begun is none waits = absurd (true≢false none)
+until_there author a reached (newest ∷ older) clock None until begun is none waits = λ other about.
+    let found : None ≡ own_rule (at_first author) a false reached newest older other =
+    is other about ∙ ap (λ (n : ℕ). own_rule (record { author = author; clock = n }) a false reached newest older other) begun in
+    ap (λ (n : ℕ). Some n) (waits other about)
+    ∙ ap (λ (rule : Option Fitting). if is_some rule then None else Some (waits_until reached.begins other newest older newest.kind)) found

@@ -19,6 +19,7 @@ use Rattle.delivery.specs.declared.due_decree.DueDecree.{DueDecree}
 use Rattle.delivery.specs.declared.due_decree.DueDecree.TheVariants as decrees
 use Rattle.tick_rules.specs.declared.due.Due.{Due}
 use Rattle.tick_rules.specs.declared.due.Due.TheVariants as dues
+use Rattle.tick_rules.specs.declared.reached.Reached.{Reached}
 use Rattle.tick_rules.specs.declared.standpoint.Standpoint.{Standpoint}
 use Rattle.tick_rules.specs.declared.attempted.Attempted.{Attempted}
 use Rattle.tick_rules.specs.Dues.{IsDueBehind, IsTelling, MayBeDue as IsPossible, decree_for, fitting_for, own_rule, telling_rule}
@@ -192,53 +193,50 @@ or_last (Some fit) fails tries tells = refl
 or_last None (Some fit) tries tells = refl
 or_last None None tries tells = refl
 
-idle_here : (s : Standpoint) (a : Attempted) (cancelled : Bool) (up : List ℕ → Bool) (newest : Decree) (older : List Decree) (taken : Submission) →
+idle_here : (s : Standpoint) (a : Attempted) (cancelled : Bool) (reached : Reached) (newest : Decree) (older : List Decree) (taken : Submission) →
     taken_in (newest ∷ older) ≡ Some taken → is_attempt_by s.author.node newest newest.kind ≡ false → (is_idle newest.kind && cancelled) ≡ false →
-    (due : Option DueDecree) → IsDue (newest ∷ older) (moment_behind (kept_of s) newest) (up taken.target) due →
+    (due : Option DueDecree) → IsDue (newest ∷ older) (moment_behind (kept_of s) newest) reached.begins due →
     option_or (option_map (λ (d : DueDecree). fitting_for s newest older (dues.Decree d)) due) (telling_rule s taken newest older)
-    ≡ own_rule s a cancelled up newest older taken
-idle_here s a cancelled up newest older taken message other kept due is =
+    ≡ own_rule s a cancelled reached newest older taken
+idle_here s a cancelled reached newest older taken message other kept due is =
     rw (other, kept)
     (ap (λ (fit : Option Fitting). option_or fit (telling_rule s taken newest older))
-    (due_is s taken newest older message (up taken.target) newest.kind refl due is)
+    (due_is s taken newest older message reached.begins newest.kind refl due is)
     ∙ or_last (fitting Expire (expiring (setup_of s) (kept_of s) taken newest older))
     (fitting Undeliver (undelivered (setup_of s) (kept_of s) newest older newest.kind))
-    (fitting Try (if_so (up taken.target) (tried (setup_of s) (kept_of s) taken newest older newest.kind))) (telling_rule s taken newest older))
+    (fitting Try (if_so reached.begins (tried (setup_of s) (kept_of s) taken newest older newest.kind))) (telling_rule s taken newest older))
 
--- of its first decree, and of what was taken by it
-idle_first : (s : Standpoint) (a : Attempted) (cancelled : Bool) (up : List ℕ → Bool) (first : Decree) (older : List Decree) (newest : Decree)
-    (taken : Submission) → slice_get (first ∷ older) 0 ≡ Some newest → taken_in (first ∷ older) ≡ Some taken →
-    is_attempt_by s.author.node newest newest.kind ≡ false → (is_idle newest.kind && cancelled) ≡ false →
-    (due : Option DueDecree) → IsDue (first ∷ older) (moment_behind (kept_of s) newest) (up taken.target) due →
-    (of : Submission) → taken_in (first ∷ older) ≡ Some of →
-    option_or (option_map (λ (d : DueDecree). fitting_for s first older (dues.Decree d)) due) (telling_rule s of first older)
-    ≡ own_rule s a cancelled up first older of
-idle_first s a cancelled up first older newest taken head message other kept due is of same =
+-- of its first decree
+idle_first : (s : Standpoint) (a : Attempted) (cancelled : Bool) (reached : Reached) (first : Decree) (older : List Decree) (newest : Decree) →
+    slice_get (first ∷ older) 0 ≡ Some newest → is_attempt_by s.author.node newest newest.kind ≡ false → (is_idle newest.kind && cancelled) ≡ false →
+    (due : Option DueDecree) → IsDue (first ∷ older) (moment_behind (kept_of s) newest) reached.begins due →
+    (taken : Submission) → taken_in (first ∷ older) ≡ Some taken →
+    option_or (option_map (λ (d : DueDecree). fitting_for s first older (dues.Decree d)) due) (telling_rule s taken first older)
+    ≡ own_rule s a cancelled reached first older taken
+idle_first s a cancelled reached first older newest head other kept due is taken message =
     let one : newest ≡ first = let heads : Some first ≡ Some newest = head in cc in
-    let messages : taken ≡ of = cc in
-    idle_here s a cancelled up first older of same
+    idle_here s a cancelled reached first older taken message
     (subst (λ (n : Decree). is_attempt_by s.author.node n n.kind ≡ false) one other)
     (subst (λ (n : Decree). (is_idle n.kind && cancelled) ≡ false) one kept) due
-    (subst (λ (t : Submission). IsDue (first ∷ older) (moment_behind (kept_of s) first) (up t.target) due) messages
-    (subst (λ (n : Decree). IsDue (first ∷ older) (moment_behind (kept_of s) n) (up taken.target) due) one is))
+    (subst (λ (n : Decree). IsDue (first ∷ older) (moment_behind (kept_of s) n) reached.begins due) one is)
 
 -- a decree is due
-pub decree_is_due : (s : Standpoint) (a : Attempted) (cancelled : Bool) (up : List ℕ → Bool) (decrees : List Decree) (newest : Decree) (taken : Submission) →
-    slice_get decrees 0 ≡ Some newest → taken_in decrees ≡ Some taken → is_attempt_by s.author.node newest newest.kind ≡ false →
-    (is_idle newest.kind && cancelled) ≡ false → (due : DueDecree) → IsDue decrees (moment_behind (kept_of s) newest) (up taken.target) (Some due) →
-    IsDueBehind s a cancelled up decrees (Some (dues.Decree due))
-decree_is_due s a cancelled up [] newest taken head message other kept due is = let none : None ≡ Some newest = head in absurd (cc)
-decree_is_due s a cancelled up (first ∷ older) newest taken head message other kept due is = λ of same.
-    idle_first s a cancelled up first older newest taken head message other kept (Some due) is of same
+pub decree_is_due : (s : Standpoint) (a : Attempted) (cancelled : Bool) (reached : Reached) (decrees : List Decree) (newest : Decree) →
+    slice_get decrees 0 ≡ Some newest → is_attempt_by s.author.node newest newest.kind ≡ false → (is_idle newest.kind && cancelled) ≡ false →
+    (due : DueDecree) → IsDue decrees (moment_behind (kept_of s) newest) reached.begins (Some due) →
+    IsDueBehind s a cancelled reached decrees (Some (dues.Decree due))
+decree_is_due s a cancelled reached [] newest head other kept due is = let none : None ≡ Some newest = head in absurd (cc)
+decree_is_due s a cancelled reached (first ∷ older) newest head other kept due is =
+    idle_first s a cancelled reached first older newest head other kept (Some due) is
 
 -- none is due, but maybe that the receipt is told
-pub telling_is_due : (s : Standpoint) (a : Attempted) (cancelled : Bool) (up : List ℕ → Bool) (decrees : List Decree) (newest : Decree) (taken : Submission) →
-    slice_get decrees 0 ≡ Some newest → taken_in decrees ≡ Some taken → is_attempt_by s.author.node newest newest.kind ≡ false →
-    (is_idle newest.kind && cancelled) ≡ false → IsDue decrees (moment_behind (kept_of s) newest) (up taken.target) None →
-    (told : Option Due) → IsTelling s decrees told → IsDueBehind s a cancelled up decrees told
-telling_is_due s a cancelled up [] newest taken head message other kept is told telling = let none : None ≡ Some newest = head in absurd (cc)
-telling_is_due s a cancelled up (first ∷ older) newest taken head message other kept is told telling = λ of same.
-    telling of same ∙ idle_first s a cancelled up first older newest taken head message other kept None is of same
+pub telling_is_due : (s : Standpoint) (a : Attempted) (cancelled : Bool) (reached : Reached) (decrees : List Decree) (newest : Decree) →
+    slice_get decrees 0 ≡ Some newest → is_attempt_by s.author.node newest newest.kind ≡ false → (is_idle newest.kind && cancelled) ≡ false →
+    IsDue decrees (moment_behind (kept_of s) newest) reached.begins None →
+    (told : Option Due) → IsTelling s decrees told → IsDueBehind s a cancelled reached decrees told
+telling_is_due s a cancelled reached [] newest head other kept is told telling = let none : None ≡ Some newest = head in absurd (cc)
+telling_is_due s a cancelled reached (first ∷ older) newest head other kept is told telling = λ taken message.
+    telling taken message ∙ idle_first s a cancelled reached first older newest head other kept None is taken message
 
 -- and its decree may follow
 pub idle_may : (s : Standpoint) (decrees : List Decree) (newest : Decree) (up : Bool) (due : DueDecree) →
@@ -249,9 +247,8 @@ idle_may s (first ∷ older) newest up due head is =
     subst (λ (n : Decree). MayExtend (taken_in (first ∷ older)) (first ∷ older) (decree_for s n (error_in (first ∷ older)) (dues.Decree due))) one
     (is.fits.0.may (author_of s.author))
 
--- what is due is what was found, at the moment and for the target that were looked at
-pub due_found : (decrees : List Decree) (looked now : ℕ) (seen up : Bool) (found due : Option DueDecree) → looked ≡ now → seen ≡ up → found ≡ due →
-    IsDue decrees looked seen found → IsDue decrees now up due
-due_found decrees looked now seen up found due moments targets same is =
-    subst (λ (d : Option DueDecree). IsDue decrees now up d) same
-    (subst (λ (u : Bool). IsDue decrees now u found) targets (subst (λ (m : ℕ). IsDue decrees m seen found) moments is))
+-- what is due is what was found, at the moment that was looked at
+pub due_found : (decrees : List Decree) (looked now : ℕ) (begins : Bool) (found due : Option DueDecree) → looked ≡ now → found ≡ due →
+    IsDue decrees looked begins found → IsDue decrees now begins due
+due_found decrees looked now begins found due moments same is =
+    subst (λ (d : Option DueDecree). IsDue decrees now begins d) same (subst (λ (m : ℕ). IsDue decrees m begins found) moments is)

@@ -18,6 +18,7 @@ use Rattle.tick_rules.specs.declared.attempted.Attempted.{Attempted}
 use Rattle.tick_rules.specs.declared.attempted.Closing.{Closing}
 use Rattle.tick_rules.specs.declared.due.Due.{Due}
 use Rattle.tick_rules.specs.declared.due.Due.TheVariants as dues
+use Rattle.tick_rules.specs.declared.reached.Reached.{Reached}
 use Rattle.tick_rules.specs.declared.standpoint.Standpoint.{Standpoint}
 use Rattle.tick_rules.specs.Attempts.{attempted_at, closed_as}
 use Rattle.tick_rules.specs.Standpoints.{kept_of, setup_of}
@@ -60,25 +61,25 @@ telling_rule s taken newest older = fitting Announce (announced (setup_of s) (ke
 
 -- of a message that waits, or whose fate is known
 abbrev pub idle_rule : Standpoint → Bool → Bool → Submission → Decree → List Decree → Option Fitting
-idle_rule s cancelled up taken newest older =
+idle_rule s cancelled begins taken newest older =
     option_or (fitting Delete (if_so (is_idle newest.kind && cancelled) (Some (start_for s newest older dues.Delete))))
     (option_or (fitting Expire (expiring (setup_of s) (kept_of s) taken newest older))
     (option_or (fitting Undeliver (undelivered (setup_of s) (kept_of s) newest older newest.kind))
-    (option_or (fitting Try (if_so up (tried (setup_of s) (kept_of s) taken newest older newest.kind)))
+    (option_or (fitting Try (if_so begins (tried (setup_of s) (kept_of s) taken newest older newest.kind)))
     (telling_rule s taken newest older))))
 
 -- of any message
-abbrev pub own_rule : Standpoint → Attempted → Bool → (List ℕ → Bool) → Decree → List Decree → Submission → Option Fitting
-own_rule s a cancelled up newest older taken =
+abbrev pub own_rule : Standpoint → Attempted → Bool → Reached → Decree → List Decree → Submission → Option Fitting
+own_rule s a cancelled reached newest older taken =
     if is_attempt_by s.author.node newest newest.kind
-    then attempt_rule (setup_of s) (kept_of s) (attempted_at a) (up taken.target) newest older
-    else idle_rule s cancelled (up taken.target) taken newest older
+    then attempt_rule (setup_of s) (kept_of s) (attempted_at a) reached.up newest older
+    else idle_rule s cancelled reached.begins taken newest older
 
 -- it is what is due
-abbrev pub IsDueBehind : Standpoint → Attempted → Bool → (List ℕ → Bool) → List Decree → Option Due → Type 0
-IsDueBehind s a cancelled up [] due = ⊥
-IsDueBehind s a cancelled up (newest ∷ older) due = (taken : Submission) → taken_in (newest ∷ older) ≡ Some taken →
-    option_map (fitting_for s newest older) due ≡ own_rule s a cancelled up newest older taken
+abbrev pub IsDueBehind : Standpoint → Attempted → Bool → Reached → List Decree → Option Due → Type 0
+IsDueBehind s a cancelled reached [] due = ⊥
+IsDueBehind s a cancelled reached (newest ∷ older) due = (taken : Submission) → taken_in (newest ∷ older) ≡ Some taken →
+    option_map (fitting_for s newest older) due ≡ own_rule s a cancelled reached newest older taken
 
 -- the message is deleted, by requests alone
 abbrev pub IsDeletion : Standpoint → Bool → List Decree → Option Due → Type 0

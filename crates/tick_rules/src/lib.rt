@@ -5,6 +5,7 @@ mod attempted;
 mod due;
 mod following;
 mod laws;
+mod reached;
 mod standpoint;
 mod waking;
 
@@ -12,5 +13,6 @@ pub use attempted::{Attempted, Closing};
 pub use due::Due;
 pub use following::follow;
 pub use laws::what_is_due_is_the_first_rule;
+pub use reached::Reached;
 pub use standpoint::Standpoint;
-pub use waking::until_due;
+pub use waking::{RETRY_DELAY, until_due};

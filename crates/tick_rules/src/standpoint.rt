@@ -6,15 +6,14 @@ ghost use Rattle.node_model.specs.Rules.{attempt_rule, is_attempt_by};
 ghost use Rattle.node_model.specs.Starts.{is_idle, moment_behind};
 ghost use Rattle.tick_rules.specs.Attempts.{attempted_at};
 ghost use Rattle.tick_rules.specs.Dues.{IsBehind, IsDecreeBehind, IsDeletion, IsDueBehind, IsEnd, IsTelling, MayBeDue, MayEnd, fitting_for};
-ghost use Rattle.delivery.specs.Targets.{is_up};
 ghost use Rattle.tick_rules.specs.Standpoints.{kept_of, setup_of};
 
 use crate::attempted::{Attempted, Closing};
 use crate::due::Due;
+use crate::reached::Reached;
 use delivery::due;
 use fate_chain::{Author, Chain, ChainFault, Decree, ErrorCode, Kind};
 use mc_types::Moment;
-use pdu_codec::SystemId;
 use std::alloc::AllocError;
 
 /// By whom a node's decrees are, and its clock.
@@ -27,26 +26,26 @@ pub struct Standpoint {
 
 impl Standpoint {
     /// What is due after a chain that is known: by what the node did with the attempt in which it ends, whether a cancel_sm that was
-    /// settled waits that matches its message, and the accounts of which a session may receive. It takes no memory.
+    /// settled waits that matches its message, and whether its target is up and an attempt of it may begin. It takes no memory.
     pub fn due(
         &self,
         chain: &Chain,
         attempted: Attempted,
         cancelled: bool,
-        up: &[SystemId],
+        reached: Reached,
     ) -> Option<Due>
-        ensures due { IsDueBehind self.now attempted cancelled (is_up up.now) chain.now.decrees result }
+        ensures due { IsDueBehind self.now attempted cancelled reached chain.now.decrees result }
         ensures may { IfSome result (MayBeDue self.now chain.now.decrees) }
     {
         let newest = chain.newest();
-        let up = is_up(up, &chain.submission().target);
+        chain.bounds();
         if self.is_attempt(newest) {
-            return self.attempt_due(newest, attempted, up);
+            return self.attempt_due(newest, attempted, reached.up);
         }
         if cancelled && is_idle(newest) {
             return Some(Due::Delete);
         }
-        match due(chain, self.moment_behind(newest), up) {
+        match due(chain, self.moment_behind(newest), reached.begins) {
             Some(due) => Some(Due::Decree(due)),
             None => self.telling(chain),
         }
@@ -160,13 +159,4 @@ fn is_idle(newest: &Decree) -> bool
     ensures { result ≡ is_idle newest.now.kind }
 {
     matches!(newest.kind, Kind::Taken(_) | Kind::Failed(_))
-}
-
-/// Whether the account is one of these.
-pub(crate) fn is_up(accounts: &[SystemId], target: &SystemId) -> bool
-    ensures { result ≡ is_up accounts.now target.now }
-{
-    accounts
-        .iter()
-        .any(|account| account.octets() == target.octets())
 }

@@ -1,54 +1,54 @@
 //! Until when nothing is due for a message.
 
 ghost use Rattle.std.specs.Prelude.{◌≡◌, ◌<◌, false, min, IfSome, None, if◌then◌else◌};
-ghost use Rattle.delivery.specs.Targets.{is_up};
 ghost use Rattle.tick_rules.specs.declared.standpoint.Standpoint.{Standpoint as StandpointValue};
 ghost use Rattle.tick_rules.specs.Dues.{IsDueBehind};
 ghost use Rattle.tick_rules.specs.Waking.{IsUntilBehind, IsWaitBehind};
 
 use crate::attempted::Attempted;
-use crate::standpoint::{Standpoint, is_up};
+use crate::reached::Reached;
+use crate::standpoint::Standpoint;
 use fate_chain::{Author, Chain, Kind};
 use mc_types::Moment;
-use pdu_codec::SystemId;
 
 /// How many seconds after a failure, times the attempts so far, the next attempt comes.
-const RETRY_DELAY: u32 = 60;
+pub const RETRY_DELAY: u32 = 60;
 
-/// The moment before which nothing is due for an author after a chain that is known, by what it did with the attempt in which the chain ends and by
-/// the accounts of which a session may receive, while no cancel_sm waits that matches its message. None if something is due now. It takes no memory.
+/// The moment before which nothing is due for an author after a chain that is known, by what it did with the attempt in which the chain ends, and by
+/// whether its target is up and an attempt may begin, while no cancel_sm waits that matches its message. None if something is due now. It takes no
+/// memory.
 pub fn until_due(
     author: Author,
     chain: &Chain,
     attempted: Attempted,
-    up: &[SystemId],
+    reached: Reached,
 ) -> Option<Moment>
-    ensures until { IsUntilBehind author attempted (is_up up.now) chain.now.decrees result }
+    ensures until { IsUntilBehind author attempted reached chain.now.decrees result }
     ensures nothing { IfSome result (λ until. (s : StandpointValue) → s.author ≡ author → s.clock < until →
-        IsDueBehind s attempted false (is_up up.now) chain.now.decrees None) }
+        IsDueBehind s attempted false reached chain.now.decrees None) }
 {
     let first = Standpoint {
         author,
         clock: Moment::least(),
     };
-    if first.due(chain, attempted, false, up).is_some() {
+    if first.due(chain, attempted, false, reached).is_some() {
         return None;
     }
-    Some(waits_until(chain, is_up(up, &chain.submission().target)))
+    Some(waits_until(chain, reached.begins))
 }
 
-/// The moment from which a message waits no longer, if it waits.
-fn waits_until(chain: &Chain, up: bool) -> Moment
-    ensures { IsWaitBehind up chain.now.decrees result }
+/// The moment from which a message waits no longer, if it waits, and an attempt may begin or not.
+fn waits_until(chain: &Chain, begins: bool) -> Moment
+    ensures { IsWaitBehind begins chain.now.decrees result }
 {
     let newest = chain.newest();
     let taken = chain.submission();
     taken.expiry.seconds();
     match newest.kind {
-        Kind::Taken(_) => earlier_if(up, taken.expiry, taken.schedule),
+        Kind::Taken(_) => earlier_if(begins, taken.expiry, taken.schedule),
         Kind::Failed(_) => {
             let delay = RETRY_DELAY * chain.attempts() as u32;
-            earlier_if(up, taken.expiry, newest.moment.later(delay))
+            earlier_if(begins, taken.expiry, newest.moment.later(delay))
         }
         Kind::Attempt(_) | Kind::Fate(..) | Kind::Told => Moment::least().later(u32::MAX),
     }

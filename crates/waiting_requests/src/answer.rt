@@ -1,10 +1,11 @@
 //! Answers.
 
-ghost use Rattle.std.specs.Prelude.{◌≡◌, ◌↔◌, IsTrue};
+ghost use Rattle.std.specs.Prelude.{◌≡◌, ◌↔◌, IfOk, IsTrue};
 ghost use Rattle.waiting_requests.specs.Showing.{IsAbout};
 
 use fate_chain::Chain;
 use mc_types::MsgId;
+use std::alloc::AllocError;
 
 /// What a request that waited is answered (SMPP 3.4, sections 4.4.2, 4.8.2 and 4.9.2).
 #[derive(Drop)]
@@ -44,6 +45,22 @@ impl Answer {
             _ => false,
         }
     }
+
+    /// The same answer once more. An `Err` is want of memory.
+    pub fn copy(&self) -> Result<Answer, AllocError>
+        ensures { IfOk result (λ copy. copy ≡ self.now) }
+    {
+        match self {
+            Answer::Accepted => Ok(Answer::Accepted),
+            Answer::Shown(chain) => Ok(Answer::Shown(chain.copy()?)),
+            Answer::Removed(chain) => Ok(Answer::Removed(chain.copy()?)),
+            Answer::Kept(chain) => Ok(Answer::Kept(chain.copy()?)),
+            Answer::NotOwner => Ok(Answer::NotOwner),
+            Answer::NotMatched(chain) => Ok(Answer::NotMatched(chain.copy()?)),
+            Answer::Unknown => Ok(Answer::Unknown),
+            Answer::TooLate => Ok(Answer::TooLate),
+        }
+    }
 }
 
 /// The answer to the request of a ticket, about the message of an id. It shows no chain of another message.
@@ -62,5 +79,16 @@ impl Reply {
         ensures { IsTrue result ↔ (self.now ≡ other.now) }
     {
         self.ticket == other.ticket && self.id == other.id && self.answer.is(&other.answer)
+    }
+
+    /// The same reply once more. An `Err` is want of memory.
+    pub fn copy(&self) -> Result<Reply, AllocError>
+        ensures { IfOk result (λ copy. copy ≡ self.now) }
+    {
+        Ok(Reply {
+            ticket: self.ticket,
+            id: self.id,
+            answer: self.answer.copy()?,
+        })
     }
 }

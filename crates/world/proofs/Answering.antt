@@ -24,8 +24,8 @@ use Rattle.sim_net.proofs.Numbers.{has_number, map_length, none_given, some_give
 use Rattle.world.specs.declared.fault.WorldFault.{WorldFault}
 use Rattle.world.specs.declared.fault.WorldFault.TheVariants as faults
 use Rattle.world.specs.declared.given.Given.{Given as Gives}
-use Rattle.world.specs.declared.step.Step.{Step}
-use Rattle.world.specs.declared.step.Step.TheVariants as steps
+use Rattle.node_entry.specs.declared.step.Step.{Step}
+use Rattle.node_entry.specs.declared.step.Step.TheVariants as steps
 use Rattle.world.specs.Members.{DoesNotTake, HasTaken, IsSentIn, Keeps, fault_from}
 use Rattle.world.specs.Runs.{Comes, GoesOn, GrantsKnownBy, IsAt, IsFault, Leads, LosesNone, StaysAt, away, or_else, refusal_of, unsent}
 use Rattle.world.specs.Scenes.{Scene}
@@ -103,7 +103,7 @@ request_is old node account request = record {
   refused = λ cluster behind inputs now. or_none _;
 }
 
-pub tick_is : (old : Scene) (node moment : ℕ) (up : _) → IsInputOf old (steps.Tick node moment up) node (given.Tick moment up)
+pub tick_is : (old : Scene) (node moment : ℕ) (reach : _) → IsInputOf old (steps.Tick node moment reach) node (given.Tick moment reach)
 tick_is old node moment up = record {
   grants = λ w granted known. known;
   comes = λ cluster behind inputs now. refl;

@@ -26,7 +26,7 @@ use Rattle.sim_net.proofs.Numbers.{number_in}
 use Rattle.world.specs.declared.fault.WorldFault.{WorldFault}
 use Rattle.world.specs.declared.fault.WorldFault.TheVariants as faults
 use Rattle.world.specs.declared.given.Given.{Given as Gives}
-use Rattle.world.specs.declared.step.Step.TheVariants as steps
+use Rattle.node_entry.specs.declared.step.Step.TheVariants as steps
 use Rattle.world.specs.Members.{CantBegin, HasBegun, HasStopped, IsPlace, Keeps, away_in, undelivered_in, unsent_in}
 use Rattle.world.specs.Runs.{IsAt, IsDown, IsFault, IsGiven, IsMember, IsSomewhere, Leads, StandsAs, away, or_else, spent, unsent}
 use Rattle.world.specs.Scenes.{Placed, Scene}

@@ -71,7 +71,7 @@ module _ (cluster : Cluster) (behind : List Packet) (inputs : List NodeInput) (o
   was_sent setup k (given.Request account request) sent = judged_sent here.packets (admitted (door_at setup k) (next_id setup k) account request)
   was_sent setup k (given.Grant id) sent = tt
   was_sent setup k (given.Answered slot outcome) sent = tt
-  was_sent setup k (given.Tick moment up) sent = tt
+  was_sent setup k (given.Tick moment reach) sent = tt
 
   -- ---- a node that is up
 

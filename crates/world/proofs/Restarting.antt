@@ -14,7 +14,7 @@ use Rattle.synod_acceptor.specs.declared.packet.Packet.{Packet as Sent}
 use Rattle.sim_net.specs.Network.{numbered}
 use Rattle.world.specs.declared.fault.WorldFault.{WorldFault}
 use Rattle.world.specs.declared.given.Given.{Given}
-use Rattle.world.specs.declared.step.Step.TheVariants as steps
+use Rattle.node_entry.specs.declared.step.Step.TheVariants as steps
 use Rattle.world.specs.Members.{CantBegin, HasBegun, HasForgotten, Keeps}
 use Rattle.world.specs.Runs.{HaltsOver, IsAt, IsSomewhere, Leads, StartsOver, begin_anew}
 use Rattle.world.specs.Scenes.{Placed, Scene}

@@ -1,8 +1,13 @@
+pub use Rattle.node_entry.specs.Copies
+pub use Rattle.node_entry.specs.Taking
+pub use Rattle.node_entry.specs.declared.step.Step
 pub use Rattle.node_runs.specs.Attempting
 pub use Rattle.node_runs.specs.Steps
 pub use Rattle.node_runs.specs.Found
 pub use Rattle.node_runs.specs.Stops
+pub use Rattle.node_runs.specs.MayBegin
+pub use Rattle.node_runs.specs.Reach
+pub use Rattle.node_runs.specs.Reaching
 pub mod Scenes
 pub mod Runs
 pub mod Members
-pub mod Copies

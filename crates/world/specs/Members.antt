@@ -170,7 +170,7 @@ IsSentIn w (inputs.Packet packet) = In packet w.packets
 IsSentIn w (inputs.Request account request) = Unit {0}
 IsSentIn w (inputs.Grant id) = Unit {0}
 IsSentIn w (inputs.Answered slot outcome) = Unit {0}
-IsSentIn w (inputs.Tick moment up) = Unit {0}
+IsSentIn w (inputs.Tick moment reach) = Unit {0}
 
 -- a node that is up took the step of an input
 pub record HasTaken (old : Scene) (node : ℕ) (input : Input) (given : Given) (new : Scene) : Type 0 where

@@ -13,7 +13,7 @@ use Rattle.node_model.specs.Outputs.{nothing}
 use Rattle.node_model.specs.Reported.{receipt_of}
 use Rattle.node_laws.specs.Clusters.{KeptCluster, MayHappen, NodeInput, comes_to, kept_reached, step_at}
 use Rattle.delivery.specs.Kept.{outcome_kept}
-use Rattle.delivery.specs.Targets.{is_up}
+use Rattle.node_runs.specs.Reaching.{reach_of}
 use Rattle.desk.specs.Arrivals.{requested}
 use Rattle.fate_chain.specs.declared.chain.Chain.{Chain}
 use Rattle.pdu_tables.specs.StatusCodes.{status_code}
@@ -33,8 +33,8 @@ use Rattle.world.specs.declared.fault.StartFault.TheVariants as starts
 use Rattle.world.specs.declared.fault.WorldFault.{WorldFault}
 use Rattle.world.specs.declared.fault.WorldFault.TheVariants as faults
 use Rattle.world.specs.declared.given.Given.{Given}
-use Rattle.world.specs.declared.step.Step.{Step}
-use Rattle.world.specs.declared.step.Step.TheVariants as steps
+use Rattle.node_entry.specs.declared.step.Step.{Step}
+use Rattle.node_entry.specs.declared.step.Step.TheVariants as steps
 use Rattle.world.specs.Scenes.{Placed, Scene}
 
 -- ---- what comes by a step
@@ -44,7 +44,7 @@ abbrev pub Comes : Cluster → ℕ → KeptCluster → Step → NodeInput → Ty
 Comes cluster behind w (steps.Deliver number node) next =
     (packet : Packet) × HasNumber w.packets (number + behind) packet × (next ≡ comes_to node (Delivery packet))
 Comes cluster behind w (steps.Request node account request) next = next ≡ comes_to node (requested (setup_of cluster node) (w.kept node) account request)
-Comes cluster behind w (steps.Tick node moment up) next = next ≡ comes_to node (Tick moment (is_up up.items))
+Comes cluster behind w (steps.Tick node moment reach) next = next ≡ comes_to node (Tick moment (reach_of reach))
 Comes cluster behind w (steps.Grant node id) next = next ≡ comes_to node (Grant (known_slot (w.kept node) id))
 Comes cluster behind w (steps.Answered node slot outcome) next = next ≡ comes_to node (Response slot (outcome_kept outcome))
 Comes cluster behind w (steps.Crash node number found) next =
@@ -56,18 +56,8 @@ abbrev pub LosesNone : Step → NodeInput → Type 0
 LosesNone (steps.Restart node) next = next ≡ comes_to node (Restart 0)
 LosesNone other next = Unit {0}
 
--- ---- the node that takes a step
+-- ---- whether the node that takes a step is up then
 
-abbrev pub node_at : Step → ℕ
-node_at (steps.Deliver number node) = node
-node_at (steps.Request node account request) = node
-node_at (steps.Tick node moment up) = node
-node_at (steps.Grant node id) = node
-node_at (steps.Answered node slot outcome) = node
-node_at (steps.Crash node number found) = node
-node_at (steps.Restart node) = node
-
--- whether it is up then
 abbrev pub leaves_up : Step → Bool
 leaves_up (steps.Crash node number found) = false
 leaves_up other = true
@@ -113,7 +103,7 @@ ungranted cluster w node id = option_map (λ refusal. faults.Grant (reason_of re
 abbrev pub refusal_of : Cluster → ℕ → KeptCluster → Step → Option WorldFault
 refusal_of cluster behind w (steps.Deliver number node) = or_else (unsent behind w number) (away cluster w node)
 refusal_of cluster behind w (steps.Request node account request) = away cluster w node
-refusal_of cluster behind w (steps.Tick node moment up) = away cluster w node
+refusal_of cluster behind w (steps.Tick node moment reach) = away cluster w node
 refusal_of cluster behind w (steps.Grant node id) = or_else (away cluster w node) (ungranted cluster w node id)
 refusal_of cluster behind w (steps.Answered node slot outcome) =
     or_else (away cluster w node) (if is_open (w.kept node) slot then None else Some faults.NotGranted)
@@ -193,7 +183,7 @@ pub record IsSomewhere (w : Scene) : Type 0 where
 abbrev pub GrantsKnownBy : KeptCluster → Step → Option Chain → Type 0
 GrantsKnownBy w (steps.Deliver number node) granted = Unit {0}
 GrantsKnownBy w (steps.Request node account request) granted = Unit {0}
-GrantsKnownBy w (steps.Tick node moment up) granted = Unit {0}
+GrantsKnownBy w (steps.Tick node moment reach) granted = Unit {0}
 GrantsKnownBy w (steps.Grant node id) granted = IfSome granted (IsKnown (w.kept node) id)
 GrantsKnownBy w (steps.Answered node slot outcome) granted = Unit {0}
 GrantsKnownBy w (steps.Crash node number found) granted = Unit {0}

@@ -4,11 +4,10 @@
 mod fault;
 mod given;
 mod member;
-mod step;
 mod world;
 
 pub use fault::{StartFault, WorldFault};
 pub use given::Given;
-pub use node_runs::{Found, is_well_made, may_come, sender};
-pub use step::Step;
+pub use node_entry::Step;
+pub use node_runs::{Found, MayBegin, MessageIds, Reach, is_well_made, may_come, sender};
 pub use world::World;

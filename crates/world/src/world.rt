@@ -7,16 +7,17 @@ ghost use Rattle.mc_model.specs.message.Ids.{IsSerial};
 ghost use Rattle.world.specs.Members.{AreOpened, CantBegin, DoesNotTake, HasBegun, HasComeQuietly, HasForgotten, HasStopped, HasTaken, IsAddressed};
 ghost use Rattle.world.specs.Members.{IsSentIn, IsUpAt, Keeps, RefusesTo, away_in, undelivered_in};
 ghost use Rattle.node_laws.specs.Clusters.{cluster_with};
-ghost use Rattle.world.specs.Runs.{HaltsOver, IsAt, IsFault, IsSomewhere, IsStartFault, Leads, StartsOver, leaves_up, node_at, start_refusal};
+ghost use Rattle.world.specs.Runs.{HaltsOver, IsAt, IsFault, IsSomewhere, IsStartFault, Leads, StartsOver, leaves_up, start_refusal};
+ghost use Rattle.node_entry.specs.Taking.{node_at};
 ghost use Rattle.world.specs.Scenes.{clock_in, is_up_in};
 ghost use Rattle.world.specs.declared.fault.WorldFault.TheVariants.{Memory};
-ghost use Rattle.world.specs.declared.step.Step.TheVariants as steps;
+ghost use Rattle.node_entry.specs.declared.step.Step.TheVariants as steps;
 
 use crate::fault::{StartFault, WorldFault};
 use crate::given::Given;
 use crate::member::Member;
-use crate::step::Step;
 use mc_types::{LAST_SERIAL, MOST_NODES, Moment, NodeNo};
+use node_entry::Step;
 use node_runs::{Found, Input, Setup};
 use sim_net::Packets;
 use std::alloc::{AllocError, Global};
@@ -154,7 +155,11 @@ impl World {
                 account,
                 request,
             } => self.take(node, Input::Request(account, request)),
-            Step::Tick { node, moment, up } => self.take(node, Input::Tick(moment, up)),
+            Step::Tick {
+                node,
+                moment,
+                reach,
+            } => self.take(node, Input::Tick(moment, reach)),
             Step::Grant { node, id } => self.take(node, Input::Grant(id)),
             Step::Answered {
                 node,

@@ -12,6 +12,7 @@ use Rattle.mc_model.specs.node.Input.{Arrival, Crash, Delivery, Grant, Input, Re
 use Rattle.mc_model.specs.node.Outcome.{Outcome}
 use Rattle.mc_model.specs.node.Outputs.{Reply}
 use Rattle.mc_model.specs.node.Replies.{Accepted, Answer, Kept as Keeps, NotMatched, NotOwner, Removed, Shown, TooLate, Unknown}
+use Rattle.mc_model.specs.node.Reach.{Reach}
 use Rattle.mc_model.specs.node.Setup.{Setup}
 use Rattle.mc_parts.proofs.Membership.{in_either, in_filter}
 use Rattle.node_model.specs.Message.{Message, Round}
@@ -380,11 +381,11 @@ arrival_holds setup k request =
       replies = λ reply among. absurd among;
     }
 
-tick_holds : (setup : Setup) (k : Kept) (moment : ℕ) (up : List ℕ → Bool) → HoldsOn k (Tick moment up) (stepped_up setup k (Tick moment up))
-tick_holds setup k moment up =
+tick_holds : (setup : Setup) (k : Kept) (moment : ℕ) (reach : Reach) → HoldsOn k (Tick moment reach) (stepped_up setup k (Tick moment reach))
+tick_holds setup k moment reach =
     let clock = max k.clock moment in
     let risen = ticked k clock in
-    let lasts = rules_last setup up (ids_of risen) risen in
+    let lasts = rules_last setup reach (ids_of risen) risen in
     record {
       held = λ h among. inl (held_under k.held h (in_filter (λ (other : Held). not (is_late clock other)) k.held h (subst (In h) lasts.held among)));
       replies = λ reply among.

@@ -13,9 +13,10 @@ use Rattle.node_laws.proofs.cluster.Fresh.{fresh, never_unknown}
 use Rattle.node_laws.proofs.cluster.Sources.{may_until}
 use Rattle.desk.specs.declared.request.Request.{Request as Asked}
 use Rattle.world.specs.declared.given.Given.{Given}
-use Rattle.world.specs.declared.step.Step.{Step}
-use Rattle.world.specs.declared.step.Step.TheVariants as steps
-use Rattle.world.specs.Runs.{given_out, node_at}
+use Rattle.world.specs.Step.{Step}
+use Rattle.world.specs.Step.TheVariants as steps
+use Rattle.world.specs.Runs.{given_out}
+use Rattle.world.specs.Taking.{node_at}
 use Rattle.world_runs.specs.Traces.{AcceptedAreKnown, Answer, BeginsAnew, Event, HaltedOver, IsAnsweredLater, IsRepliedTo, LaterQueriesAreTold}
 use Rattle.world_runs.specs.Traces.{LivesOn, StartedOver, Tried, told_by}
 use Rattle.world_runs.proofs.Coming.{arrived, node_of_step, started_by_step}

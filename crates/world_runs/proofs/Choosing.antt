@@ -13,7 +13,7 @@ use Rattle.node_laws.specs.Chosen.{WasVotedFor}
 use Rattle.node_laws.specs.Clusters.{MayHappen, NodeInput, StatesFinal, kept_reached, outputs_at}
 use Rattle.node_laws.proofs.invariant.Orders.{reverse_in}
 use Rattle.node_laws.proofs.cluster.Sources.{may_until}
-use Rattle.world.specs.declared.step.Step.{Step}
+use Rattle.world.specs.Step.{Step}
 use Rattle.world.specs.Runs.{begin_anew}
 use Rattle.world.proofs.Restarting.{same_packets}
 use Rattle.world_runs.specs.Traces.{Answer, AreChosen, Event, HaltedOver, StartedOver, Tried, answers_in, sent_by, told_in}

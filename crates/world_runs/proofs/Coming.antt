@@ -20,9 +20,10 @@ use Rattle.delivery.specs.declared.outcome.Outcome.TheVariants as outcomes
 use Rattle.desk.specs.Admissions.{admitted}
 use Rattle.desk.specs.Arrivals.{door_at, judged_as, next_id, requested}
 use Rattle.desk.specs.declared.request.Request.{Request as Asked}
-use Rattle.world.specs.declared.step.Step.{Step}
-use Rattle.world.specs.declared.step.Step.TheVariants as steps
-use Rattle.world.specs.Runs.{Comes, node_at}
+use Rattle.world.specs.Step.{Step}
+use Rattle.world.specs.Step.TheVariants as steps
+use Rattle.world.specs.Runs.{Comes}
+use Rattle.world.specs.Taking.{node_at}
 
 -- by a request no attempt is granted, none is answered, and no node starts anew
 no_grant_asked : (slot : Slot) (judged : Result Request Status) → Grant slot ≡ judged_as judged → ⊥
@@ -56,7 +57,7 @@ module _ (cluster : Cluster) (behind : ℕ) (w : KeptCluster) (node : ℕ) where
   pub granted_by_step : (slot : Slot) (step : Step) → Comes cluster behind w step (comes_to node (Grant slot)) → step ≡ steps.Grant node slot.id
   granted_by_step slot (steps.Deliver number other) c = let same = input_is other (Grant slot) (Delivery c.0) c.2 in absurd (cc)
   granted_by_step slot (steps.Request other account request) c = absurd (no_grant_asked slot (judged other account request) (input_is other (Grant slot) _ c))
-  granted_by_step slot (steps.Tick other moment up) c = let same = input_is other (Grant slot) _ c in absurd (cc)
+  granted_by_step slot (steps.Tick other moment reach) c = let same = input_is other (Grant slot) _ c in absurd (cc)
   granted_by_step slot (steps.Grant other id) c =
       let slots : slot ≡ known_slot (w.kept other) id = let same = input_is other (Grant slot) (Grant (known_slot (w.kept other) id)) c in cc in
       let ids : id ≡ slot.id = ap (λ (s : Slot). s.id) (sym slots) in
@@ -73,7 +74,7 @@ module _ (cluster : Cluster) (behind : ℕ) (w : KeptCluster) (node : ℕ) where
   answered_by_step slot (steps.Deliver number other) c = let same = input_is other (answer slot) (Delivery c.0) c.2 in absurd (cc)
   answered_by_step slot (steps.Request other account request) c =
       absurd (no_answer_asked slot (Concluded Delivered 0) (judged other account request) (input_is other (answer slot) _ c))
-  answered_by_step slot (steps.Tick other moment up) c = let same = input_is other (answer slot) _ c in absurd (cc)
+  answered_by_step slot (steps.Tick other moment reach) c = let same = input_is other (answer slot) _ c in absurd (cc)
   answered_by_step slot (steps.Grant other id) c = let same = input_is other (answer slot) (Grant (known_slot (w.kept other) id)) c in absurd (cc)
   answered_by_step slot (steps.Answered other place outcome) c =
       let same : answer slot ≡ Response place (outcome_kept outcome) = input_is other (answer slot) (Response place (outcome_kept outcome)) c in
@@ -87,7 +88,7 @@ module _ (cluster : Cluster) (behind : ℕ) (w : KeptCluster) (node : ℕ) where
   pub started_by_step : (lost : ℕ) (step : Step) → Comes cluster behind w step (comes_to node (Restart lost)) → step ≡ steps.Restart node
   started_by_step lost (steps.Deliver number other) c = let same = input_is other (Restart lost) (Delivery c.0) c.2 in absurd (cc)
   started_by_step lost (steps.Request other account request) c = absurd (no_start_asked lost (judged other account request) (input_is other (Restart lost) _ c))
-  started_by_step lost (steps.Tick other moment up) c = let same = input_is other (Restart lost) _ c in absurd (cc)
+  started_by_step lost (steps.Tick other moment reach) c = let same = input_is other (Restart lost) _ c in absurd (cc)
   started_by_step lost (steps.Grant other id) c = let same = input_is other (Restart lost) (Grant (known_slot (w.kept other) id)) c in absurd (cc)
   started_by_step lost (steps.Answered other place outcome) c =
       let same = input_is other (Restart lost) (Response place (outcome_kept outcome)) c in absurd (cc)
@@ -99,7 +100,7 @@ pub node_of_step : (cluster : Cluster) (behind : ℕ) (w : KeptCluster) (step : 
     next.node ≡ node_at step
 node_of_step cluster behind w (steps.Deliver number node) next c = ap (λ (x : NodeInput). x.node) c.2
 node_of_step cluster behind w (steps.Request node account request) next c = ap (λ (x : NodeInput). x.node) c
-node_of_step cluster behind w (steps.Tick node moment up) next c = ap (λ (x : NodeInput). x.node) c
+node_of_step cluster behind w (steps.Tick node moment reach) next c = ap (λ (x : NodeInput). x.node) c
 node_of_step cluster behind w (steps.Grant node id) next c = ap (λ (x : NodeInput). x.node) c
 node_of_step cluster behind w (steps.Answered node slot outcome) next c = ap (λ (x : NodeInput). x.node) c
 node_of_step cluster behind w (steps.Crash node number found) next c = ap (λ (x : NodeInput). x.node) c.2

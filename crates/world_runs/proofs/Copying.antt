@@ -6,44 +6,45 @@ use Rattle.mc_model.specs.synod.Packet.{Packet}
 use Rattle.mc_model.specs.cluster.Steps.{Cluster}
 use Rattle.node_laws.specs.Clusters.{NodeInput, comes_to}
 use Rattle.delivery.specs.Targets.{is_up}
+use Rattle.world.specs.Reaching.{may_of}
 use Rattle.world.specs.Copies.{IsCopy}
-use Rattle.world.specs.declared.step.Step.{Step}
-use Rattle.world.specs.declared.step.Step.TheVariants as steps
+use Rattle.world.specs.Step.{Step}
+use Rattle.world.specs.Step.TheVariants as steps
 use Rattle.world.specs.Runs.{Answers, Leads}
 use Rattle.world.specs.Scenes.{Scene}
 use Rattle.world_runs.specs.Histories.{BecomesBy}
 use Rattle.world_runs.specs.Traces.{Answer, AreCopies, events_of}
 
 leads_of : (old : Scene) (step copy : Step) (answer : Answer) (new : Scene) → IsCopy step copy → Leads old copy answer new → Leads old step answer new
-leads_of old (steps.Tick node moment up) (steps.Tick same then others) answer new is leads = record {
+leads_of old (steps.Tick node moment reach) (steps.Tick same then others) answer new is leads = record {
   fresh = leads.fresh;
   each = λ cluster behind inputs at. by_answer cluster behind inputs answer (leads.each cluster behind inputs at);
 }
   where
     by_answer : (cluster : Cluster) (behind : List Packet) (inputs : List NodeInput) (answer : Answer) →
-        Answers cluster behind inputs (steps.Tick same then others) answer new → Answers cluster behind inputs (steps.Tick node moment up) answer new
+        Answers cluster behind inputs (steps.Tick same then others) answer new → Answers cluster behind inputs (steps.Tick node moment reach) answer new
     by_answer cluster behind inputs answer answers =
         alike cluster behind inputs answer
         (subst (λ (step : Step). Answers cluster behind inputs step answer new) (λ i. steps.Tick (is.0 i) (is.1 i) others) answers)
       where
         alike : (cluster : Cluster) (behind : List Packet) (inputs : List NodeInput) (answer : Answer) →
-            Answers cluster behind inputs (steps.Tick node moment others) answer new → Answers cluster behind inputs (steps.Tick node moment up) answer new
+            Answers cluster behind inputs (steps.Tick node moment others) answer new → Answers cluster behind inputs (steps.Tick node moment reach) answer new
         alike cluster behind inputs (Ok given) goes = record {
           allowed = goes.allowed;
           next = goes.next;
-          comes = goes.comes ∙ ap (λ (accounts : List (List ℕ)). comes_to node (Tick moment (is_up accounts))) is.2;
+          comes = goes.comes ∙ (λ i. comes_to node (Tick moment (record { up = is_up (is.2.0 i); may = may_of (is.2.1 i) })));
           loses = tt;
           at = goes.at;
           gives = goes.gives;
           granted = tt;
         }
         alike cluster behind inputs (Err fault) stays = record { refused = stays.refused; at = stays.at }
-leads_of old (steps.Tick node moment up) (steps.Deliver number to) answer new is leads = absurd is
-leads_of old (steps.Tick node moment up) (steps.Request to account request) answer new is leads = absurd is
-leads_of old (steps.Tick node moment up) (steps.Grant to id) answer new is leads = absurd is
-leads_of old (steps.Tick node moment up) (steps.Answered to slot outcome) answer new is leads = absurd is
-leads_of old (steps.Tick node moment up) (steps.Crash to number found) answer new is leads = absurd is
-leads_of old (steps.Tick node moment up) (steps.Restart to) answer new is leads = absurd is
+leads_of old (steps.Tick node moment reach) (steps.Deliver number to) answer new is leads = absurd is
+leads_of old (steps.Tick node moment reach) (steps.Request to account request) answer new is leads = absurd is
+leads_of old (steps.Tick node moment reach) (steps.Grant to id) answer new is leads = absurd is
+leads_of old (steps.Tick node moment reach) (steps.Answered to slot outcome) answer new is leads = absurd is
+leads_of old (steps.Tick node moment reach) (steps.Crash to number found) answer new is leads = absurd is
+leads_of old (steps.Tick node moment reach) (steps.Restart to) answer new is leads = absurd is
 leads_of old (steps.Deliver number node) copy answer new is leads = subst (λ (step : Step). Leads old step answer new) is leads
 leads_of old (steps.Request node account request) copy answer new is leads = subst (λ (step : Step). Leads old step answer new) is leads
 leads_of old (steps.Grant node id) copy answer new is leads = subst (λ (step : Step). Leads old step answer new) is leads

@@ -12,7 +12,7 @@ use Rattle.mc_parts.proofs.Membership.{in_either, in_left, in_right, of_only}
 use Rattle.node_laws.specs.Clusters.{NodeInput, cluster_outputs, comes_to, kept_reached, outputs_at, step_at}
 use Rattle.node_laws.proofs.cluster.Sources.{cut_at}
 use Rattle.world.specs.declared.given.Given.{Given}
-use Rattle.world.specs.declared.step.Step.{Step}
+use Rattle.world.specs.Step.{Step}
 use Rattle.world.specs.Runs.{Comes, IsGiven, begin_anew}
 use Rattle.world_runs.specs.Traces.{Answer, Event, HaltedOver, Reaches, StartedOver, Tried, answers_in, events_of, steps_in}
 

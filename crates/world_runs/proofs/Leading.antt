@@ -7,7 +7,7 @@ use Rattle.mc_model.specs.cluster.Steps.{Cluster}
 use Rattle.mc_model.specs.node.Input.{Restart}
 use Rattle.node_laws.specs.Clusters.{KeptCluster, NodeInput, comes_to, kept_reached}
 use Rattle.synod_acceptor.specs.Packets.{packet_of}
-use Rattle.world.specs.declared.step.Step.{Step}
+use Rattle.world.specs.Step.{Step}
 use Rattle.world.specs.Runs.{Comes, IsAt, IsSomewhere, Leads, LosesNone}
 use Rattle.world.specs.Scenes.{Scene}
 use Rattle.world_runs.specs.Histories.{BecomesBy, History, numbered_by}

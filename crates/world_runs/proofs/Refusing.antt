@@ -19,8 +19,8 @@ use Rattle.desk.specs.declared.door.Door.{Door}
 use Rattle.desk.specs.declared.request.Request.{Request as Asked}
 use Rattle.desk.specs.declared.request.Request.TheVariants as asked
 use Rattle.world.specs.declared.given.Given.{Given}
-use Rattle.world.specs.declared.step.Step.{Step}
-use Rattle.world.specs.declared.step.Step.TheVariants as steps
+use Rattle.world.specs.Step.{Step}
+use Rattle.world.specs.Step.TheVariants as steps
 use Rattle.world.specs.Runs.{Comes}
 use Rattle.world_runs.specs.Tellings.{IdsAreNotRefusedAtOnce, Names}
 use Rattle.world_runs.specs.Traces.{Event, Tried}

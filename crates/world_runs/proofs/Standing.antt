@@ -15,7 +15,7 @@ use Rattle.node_laws.specs.Runs.{IsOneOf}
 use Rattle.node_laws.proofs.cluster.Delivered.{delivered}
 use Rattle.node_laws.proofs.cluster.Sources.{may_until}
 use Rattle.world.specs.declared.given.Given.{Given}
-use Rattle.world.specs.declared.step.Step.{Step}
+use Rattle.world.specs.Step.{Step}
 use Rattle.world.specs.Runs.{Comes, IsGiven, begin_anew, given_out}
 use Rattle.world_runs.specs.Traces.{Answer, BeginsAnew, CameInOneLife, DeliveriesStand, Event, HaltedOver, IsAnswered, IsGranted, LostNoneSince, Reaches}
 use Rattle.world_runs.specs.Traces.{StandsInTheRun, StandsOnAnAttempt, StartedOver, Tried, events_of, told_by}

@@ -11,8 +11,9 @@ use Rattle.node_laws.specs.GivenOut.{Cancels, EndsInToldOf, ReceiptsStand}
 use Rattle.node_laws.proofs.cluster.GivenOut.{cancels_delete, receipts_stand}
 use Rattle.node_laws.proofs.cluster.Sources.{may_until}
 use Rattle.world.specs.declared.given.Given.{Given}
-use Rattle.world.specs.declared.step.Step.{Step}
-use Rattle.world.specs.Runs.{IsGiven, given_out, node_at}
+use Rattle.world.specs.Step.{Step}
+use Rattle.world.specs.Runs.{IsGiven, given_out}
+use Rattle.world.specs.Taking.{node_at}
 use Rattle.world_runs.specs.Tellings.{AllReceiptsStand, CancelsAreDeletions, GrantsNoneAfterACancel}
 use Rattle.world_runs.specs.Traces.{Answer, Event, HaltedOver, StartedOver, Tried, answers_in, told_by}
 use Rattle.world_runs.proofs.Coming.{node_of_step}

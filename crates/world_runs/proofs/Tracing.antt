@@ -11,7 +11,7 @@ use Rattle.node_laws.proofs.cluster.NoGrant.{no_grant}
 use Rattle.node_laws.proofs.cluster.OneReceipt.{count_both, count_of, one_of_each}
 use Rattle.node_laws.proofs.cluster.Stated.{one_final}
 use Rattle.world.specs.declared.given.Given.{Given}
-use Rattle.world.specs.declared.step.Step.{Step}
+use Rattle.world.specs.Step.{Step}
 use Rattle.world.specs.Runs.{IsGiven, begin_anew, given_out}
 use Rattle.world_runs.specs.Traces.{Answer, Event, GrantsNoneAfterAFate, HaltedOver, HasOneFate, HasOneReceipt, StartedOver, Tried, answers_in}
 use Rattle.world_runs.specs.Traces.{told_by, told_in}

@@ -1,8 +1,12 @@
 pub use Rattle.world.specs.Copies
+pub use Rattle.world.specs.MayBegin
+pub use Rattle.world.specs.Reach
+pub use Rattle.world.specs.Reaching
 pub use Rattle.world.specs.Runs
 pub use Rattle.world.specs.declared.fault.WorldFault
 pub use Rattle.world.specs.declared.given.Given
-pub use Rattle.world.specs.declared.step.Step
+pub use Rattle.world.specs.Step
+pub use Rattle.world.specs.Taking
 pub mod Traces
 pub mod Tellings
 pub mod Histories

@@ -9,9 +9,10 @@ use Rattle.pdu_tables.specs.declared.status.Status.TheVariants as statuses
 use Rattle.desk.specs.declared.request.Request.{Request}
 use Rattle.desk.specs.declared.request.Request.TheVariants as asked
 use Rattle.world.specs.declared.given.Given.{Given}
-use Rattle.world.specs.declared.step.Step.{Step}
-use Rattle.world.specs.declared.step.Step.TheVariants as steps
-use Rattle.world.specs.Runs.{given_out, node_at}
+use Rattle.world.specs.Step.{Step}
+use Rattle.world.specs.Step.TheVariants as steps
+use Rattle.world.specs.Runs.{given_out}
+use Rattle.world.specs.Taking.{node_at}
 use Rattle.world_runs.specs.Traces.{Answer, CameBefore, Event, Tried, told_in}
 
 -- ESME_ROK to a cancel_sm states that its message is DELETED (SMPP 3.4, 4.9.2).

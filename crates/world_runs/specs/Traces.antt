@@ -15,10 +15,11 @@ use Rattle.delivery.specs.declared.outcome.Outcome.TheVariants as outcomes
 use Rattle.desk.specs.declared.request.Request.{Request}
 use Rattle.world.specs.declared.fault.WorldFault.{WorldFault}
 use Rattle.world.specs.declared.given.Given.{Given}
-use Rattle.world.specs.declared.step.Step.{Step}
-use Rattle.world.specs.declared.step.Step.TheVariants as steps
+use Rattle.world.specs.Step.{Step}
+use Rattle.world.specs.Step.TheVariants as steps
 use Rattle.world.specs.Copies.{IsCopy}
-use Rattle.world.specs.Runs.{Comes, IsAt, IsFault, IsGiven, given_out, node_at, refusal_of}
+use Rattle.world.specs.Runs.{Comes, IsAt, IsFault, IsGiven, given_out, refusal_of}
+use Rattle.world.specs.Taking.{node_at}
 use Rattle.world.specs.Scenes.{Scene}
 
 abbrev pub Answer : Type 0

@@ -10,7 +10,7 @@ use pdu_codec::SystemId;
 use std::alloc::Global;
 use std::process::Abort;
 use waiting_requests::Reply;
-use world::{Given, Step, World, WorldFault};
+use world::{Given, Reach, Step, World, WorldFault};
 use world_runs::{Trace, run};
 
 // What happens in a world, at a node.
@@ -104,7 +104,7 @@ fn step_of(rt: &impl Abort, alloc: Global, comes: Comes) -> Step {
         Comes::Ticks(number, seconds) => Step::Tick {
             node: node(rt, number),
             moment: Moment::make(seconds).expect(rt, "a moment"),
-            up: accounts(rt, alloc),
+            reach: Reach::of_all(accounts(rt, alloc)),
         },
         Comes::Grants(number) => Step::Grant {
             node: node(rt, number),
@@ -276,9 +276,11 @@ pub fn assert_stated_again(
 fn comes_by(step: &Step) -> Option<Comes> {
     match step {
         Step::Deliver { number, node } => Some(Comes::Delivers(*number, node.number())),
-        Step::Tick { node, moment, up } if up.len() == 1 => {
-            Some(Comes::Ticks(node.number(), moment.seconds()))
-        }
+        Step::Tick {
+            node,
+            moment,
+            reach,
+        } if reach.up.len() == 1 => { Some(Comes::Ticks(node.number(), moment.seconds())) }
         Step::Restart { node } => Some(Comes::Restarts(node.number())),
         _ => None,
     }

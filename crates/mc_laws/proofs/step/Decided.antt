@@ -113,7 +113,7 @@ core_once setup a records (Crash packet true) one other c d =
     (handled_once _ (IsSaved records packet) (saved_once records packet) c.before d.before c.handled d.handled) ∙ sym d.acts_are
 core_once setup a records (Arrival request) one other c d = c ∙ sym d
 core_once setup a records (Refusal status) one other c d = c.1 ∙ sym d.1
-core_once setup a records (Tick moment up) one other c d = c ∙ sym d
+core_once setup a records (Tick moment reach) one other c d = c ∙ sym d
 core_once setup a records (Grant slot) one other c d = c ∙ sym d
 core_once setup a records (Response slot outcome) one other c d = c ∙ sym d
 core_once setup a records (Restart lost) one other c d = c ∙ sym d

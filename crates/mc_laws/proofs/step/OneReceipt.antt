@@ -168,7 +168,7 @@ module _ (id : ℕ) (chain : List Decree) where
   ]
   core_none setup a records (Arrival request) acts is = not_only (Begins a.ticket request) acts (λ same. cc) is
   core_none setup a records (Refusal status) acts is = none_in acts is.1
-  core_none setup a records (Tick moment up) acts is = not_only (Ticks moment) acts (λ same. cc) is
+  core_none setup a records (Tick moment reach) acts is = not_only (Ticks moment) acts (λ same. cc) is
   core_none setup a records (Grant slot) acts is = not_only (Grants slot) acts (λ same. cc) is
   core_none setup a records (Response slot outcome) acts is = not_only (Concludes slot outcome) acts (λ same. cc) is
   core_none setup a records (Restart lost) acts is = not_only (Restarts lost setup.first_serial) acts (λ same. cc) is
@@ -179,7 +179,7 @@ module _ (id : ℕ) (chain : List Decree) where
   ended_none a (Crash packet after) due = due
   ended_none a (Arrival request) due = due
   ended_none a (Refusal status) due = due
-  ended_none a (Tick moment up) due = due
+  ended_none a (Tick moment reach) due = due
   ended_none a (Grant slot) due = due
   ended_none a (Response slot outcome) due = due
   ended_none a (Restart lost) due = due
@@ -189,7 +189,7 @@ module _ (id : ℕ) (chain : List Decree) where
   asked_none nodes node before a (Crash packet after) due = due
   asked_none nodes node before a (Arrival request) due = due
   asked_none nodes node before a (Refusal status) due = due
-  asked_none nodes node before a (Tick moment up) due = due
+  asked_none nodes node before a (Tick moment reach) due = due
   asked_none nodes node before a (Grant slot) due = due
   asked_none nodes node before a (Response slot outcome) due = due
   asked_none nodes node before a (Restart lost) due = due
@@ -199,7 +199,7 @@ module _ (id : ℕ) (chain : List Decree) where
   abandoned_none nodes node a records (Crash packet after) due = due
   abandoned_none nodes node a records (Arrival request) due = due
   abandoned_none nodes node a records (Refusal status) due = due
-  abandoned_none nodes node a records (Tick moment up) due = due
+  abandoned_none nodes node a records (Tick moment reach) due = due
   abandoned_none nodes node a records (Grant slot) due = due
   abandoned_none nodes node a records (Response slot outcome) due = due
   abandoned_none nodes node a records (Restart lost) due = due

@@ -70,7 +70,7 @@ came_by_input w (Delivery packet) other came same = subst (λ (p : Packet). In p
 came_by_input w (Crash packet after) other came same = subst (λ (p : Packet). In p w.packets) (sym same) came
 came_by_input w (Arrival request) other came none = absurd none
 came_by_input w (Refusal status) other came none = absurd none
-came_by_input w (Tick moment up) other came none = absurd none
+came_by_input w (Tick moment reach) other came none = absurd none
 came_by_input w (Grant slot) other came none = absurd none
 came_by_input w (Response slot outcome) other came none = absurd none
 came_by_input w (Restart lost) other came none = absurd none
@@ -100,7 +100,7 @@ core_receives setup a records (Crash packet true) acts c = elim c.handled [
 ]
 core_receives setup a records (Arrival request) acts c = none_of_one _ acts (λ packet same. cc) c
 core_receives setup a records (Refusal status) acts c = none_of_none acts c.1
-core_receives setup a records (Tick moment up) acts c = none_of_one _ acts (λ packet same. cc) c
+core_receives setup a records (Tick moment reach) acts c = none_of_one _ acts (λ packet same. cc) c
 core_receives setup a records (Grant slot) acts c = none_of_one _ acts (λ packet same. cc) c
 core_receives setup a records (Response slot outcome) acts c = none_of_one _ acts (λ packet same. cc) c
 core_receives setup a records (Restart lost) acts c = none_of_one _ acts (λ packet same. cc) c
@@ -135,13 +135,13 @@ exact_receives setup a records input acts e packet is_in =
     ]
   where
     not_ended : (input : Input) (a : Actor) (p : Packet) → DueToEnd input a (Receives p) → ⊥
-    not_ended (Tick moment up) a p none = none
+    not_ended (Tick moment reach) a p none = none
     not_ended input a p none = none
 
     not_asked : (input : Input) (nodes node : ℕ) (before a : Actor) (p : Packet) → DueToAsk nodes node before a input (Receives p) → ⊥
-    not_asked (Tick moment up) nodes node before a p none = none
+    not_asked (Tick moment reach) nodes node before a p none = none
     not_asked input nodes node before a p none = none
 
     not_abandoned : (input : Input) (nodes node : ℕ) (a : Actor) (records : Records) (p : Packet) → DueToAbandon nodes node a records input (Receives p) → ⊥
-    not_abandoned (Tick moment up) nodes node a records p none = none
+    not_abandoned (Tick moment reach) nodes node a records p none = none
     not_abandoned input nodes node a records p none = none

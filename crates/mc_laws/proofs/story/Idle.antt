@@ -81,7 +81,7 @@ module _ (setup : Setup) (a : Actor) (records : Records) (input : Input) (core :
       by_input (Restart lost) is (Asks id ticket) due = due
       by_input (Restart lost) is act due = due
       by_input (Arrival request) is act due = absurd is
-      by_input (Tick moment up) is act due = absurd is
+      by_input (Tick moment reach) is act due = absurd is
 
   abandons_none : (act : Act) → DueToAbandon setup.nodes setup.node b (saved records core) input act → ⊥
   abandons_none act due = by_input input plain due
@@ -124,7 +124,7 @@ module _ (setup : Setup) (a : Actor) (records : Records) (input : Input) (core :
       no_follow (Crash packet after) follow = follow
       no_follow (Arrival request) follow = follow
       no_follow (Refusal status) follow = follow
-      no_follow (Tick moment up) follow = follow
+      no_follow (Tick moment reach) follow = follow
       no_follow (Grant other) follow = follow
       no_follow (Response other outcome) follow = follow
       no_follow (Restart lost) follow = follow
@@ -164,7 +164,7 @@ module _ (setup : Setup) (a : Actor) (records : Records) (input : Input) (core :
       by_input (Restart lost) is (inr (inr (inr (inl delete)))) none = idle.waits delete.deletes.cancelled.waiting delete.deletes.cancelled.waits
       by_input (Restart lost) is (inr (inr (inr (inr told)))) none = no_told slot.id slot.place chain told
       by_input (Arrival request) is due none = absurd is
-      by_input (Tick moment up) is due none = absurd is
+      by_input (Tick moment reach) is due none = absurd is
   cause_none no_close no_told act due = due
 
   pub idle_exact : IsCore setup a records input core → ((act : Act) → DueToReport setup.nodes setup.node a b act → ⊥) →

@@ -1,5 +1,5 @@
 -- A tick starts a round by the first rule that fits.
-use Rattle.std.proofs.Common.{◌≡◌, ℕ, suc, ◌<◌, ◌≤◌, Bool, List, [], ◌∷◌, ◌++◌, length, Some, refl, sym, ◌∙◌, ap, subst, inl, inr, arith}
+use Rattle.std.proofs.Common.{◌≡◌, ℕ, suc, ◌<◌, ◌≤◌, Bool, true, false, List, [], ◌∷◌, ◌++◌, length, Some, refl, sym, ◌∙◌, ap, subst, inl, inr, arith}
 use Rattle.std.proofs.lemmas.Bool.{cases_lt}
 use Rattle.mc_model.specs.message.Submission.{Submission}
 use Rattle.mc_model.specs.message.Decree.{Decree, Kind, Taken, Attempt, Failed, Fate, Told, Delivered, Expired, Undeliverable}
@@ -24,7 +24,8 @@ use Rattle.mc_model.specs.node.Phases.{DueToSettle, DueToEnd, DueToAsk, DueToAba
 use Rattle.mc_model.specs.node.Step.{IsExact}
 use Rattle.mc_model.specs.node.Alone.{IsStepAlone}
 use Rattle.mc_laws.specs.Stories.{first_id, first_ballot, first_setup, decreed, taken_chain, attempted_chain, delivered_chain, told_chain, MayBeTried}
-use Rattle.mc_laws.specs.NodeStories.{knowing, no_records, node_of_actor, opening_ballot, all_up, none_up}
+use Rattle.mc_model.specs.node.Reach.{Reach}
+use Rattle.mc_laws.specs.NodeStories.{knowing, no_records, node_of_actor, opening_ballot, all_up, none_begin, none_up}
 use Rattle.mc_laws.specs.TickStories.{one_minute_later, expired_chain, undelivered_chain, lost_chain, given_up_chain, starting, giving_up, failed_chain}
 use Rattle.mc_laws.proofs.story.Rounds.{one_of_one}
 use Rattle.mc_parts.proofs.Known.{knows_one}
@@ -60,7 +61,7 @@ only_known chain id other known =
 -- ---- a tick of it
 
 module _ (incarnation clock : ℕ) (newest : Decree) (older : List Decree) (granted : List Slot) (closed : List (Slot × Outcome)) (moment : ℕ)
-    (up : List ℕ → Bool) where
+    (reach : Reach) where
   abbrev before : Actor
   before = knowing incarnation clock (newest ∷ older) granted closed
 
@@ -77,7 +78,7 @@ module _ (incarnation clock : ℕ) (newest : Decree) (older : List Decree) (gran
   further_place : (id place : ℕ) (chain : List Decree) (kind : Kind) (further : GoesFurther 1 1 now id place chain kind) → place ≡ length (newest ∷ older)
   further_place id place chain kind further = further.behind ∙ ap (λ (c : List Decree). length c) (only_known (newest ∷ older) id _ further.known)
 
-  rule_id : (id place : ℕ) (chain : List Decree) (rule : Rule) → FitsRule 1 1 now no_records up id place chain rule → id ≡ first_id
+  rule_id : (id place : ℕ) (chain : List Decree) (rule : Rule) → FitsRule 1 1 now no_records reach id place chain rule → id ≡ first_id
   rule_id id place chain Take fits = absurd fits.1.waits
   rule_id id place chain Follow fits = elim fits.highest.shown [ inl told ↦ absurd told.waits | inr own ↦ cc ]
   rule_id id place chain Close fits = further_id id place chain _ fits.further
@@ -94,11 +95,11 @@ module _ (incarnation clock : ℕ) (newest : Decree) (older : List Decree) (gran
   settles_none (Settles ticket) due = due.waits
   settles_none act due = due
 
-  ends_none : (act : Act) → DueToEnd (Tick moment up) now act → ⊥
+  ends_none : (act : Act) → DueToEnd (Tick moment reach) now act → ⊥
   ends_none (Replies ticket id TooLate) due = due.asked.waits
   ends_none act due = due
 
-  asks_none : (act : Act) → DueToAsk 1 1 before now (Tick moment up) act → ⊥
+  asks_none : (act : Act) → DueToAsk 1 1 before now (Tick moment reach) act → ⊥
   asks_none (Asks id ticket) due = due.waits
   asks_none act due = due
 
@@ -135,23 +136,23 @@ module _ (incarnation clock : ℕ) (newest : Decree) (older : List Decree) (gran
   abbrev rounds : List Decree → List Act
   rounds chain = Prepares (slot_at first_id (length (newest ∷ older))) (opening_ballot incarnation) chain ∷ []
 
-  prepares_only : (rule : Rule) (chain : List Decree) → IsFirstRule 1 1 now no_records up first_id (length (newest ∷ older)) chain rule →
+  prepares_only : (rule : Rule) (chain : List Decree) → IsFirstRule 1 1 now no_records reach first_id (length (newest ∷ older)) chain rule →
       (act : Act) → In act (rounds chain) →
-      DueToPrepare 1 1 before now no_records (Tick moment up) act
-  prepares_only rule chain fits act (inl same) = subst (DueToPrepare 1 1 before now no_records (Tick moment up)) (sym same) ((rule, fits), prepares_so _)
+      DueToPrepare 1 1 before now no_records (Tick moment reach) act
+  prepares_only rule chain fits act (inl same) = subst (DueToPrepare 1 1 before now no_records (Tick moment reach)) (sym same) ((rule, fits), prepares_so _)
   prepares_only rule chain fits act (inr none) = absurd none
 
-  prepares_all : (act : Act) → DueToPrepare 1 1 before now no_records (Tick moment up) act → In (key_of act) (first_id ∷ [])
+  prepares_all : (act : Act) → DueToPrepare 1 1 before now no_records (Tick moment reach) act → In (key_of act) (first_id ∷ [])
   prepares_all (Prepares slot ballot chain) due = inl (rule_id slot.id slot.place chain due.0.0 due.0.1.fits)
   prepares_all act due = absurd due
 
   -- by a rule that gives nothing up
-  abandons_none : (rule : Rule) (place : ℕ) (chain : List Decree) → IsFirstRule 1 1 now no_records up first_id place chain rule →
-      (order_of rule ≡ order_of GiveUp → ⊥) → (act : Act) → DueToAbandon 1 1 now no_records (Tick moment up) act →
+  abandons_none : (rule : Rule) (place : ℕ) (chain : List Decree) → IsFirstRule 1 1 now no_records reach first_id place chain rule →
+      (order_of rule ≡ order_of GiveUp → ⊥) → (act : Act) → DueToAbandon 1 1 now no_records (Tick moment reach) act →
       ⊥
   abandons_none rule place chain first apart (Abandons slot) due =
-      let g : IsFirstRule 1 1 now no_records up first_id (suc slot.place) due.0 GiveUp = subst
-      (λ (i : ℕ). IsFirstRule 1 1 now no_records up i (suc slot.place) due.0 GiveUp)
+      let g : IsFirstRule 1 1 now no_records reach first_id (suc slot.place) due.0 GiveUp = subst
+      (λ (i : ℕ). IsFirstRule 1 1 now no_records reach i (suc slot.place) due.0 GiveUp)
       (rule_id slot.id (suc slot.place) due.0 GiveUp due.1.fits) due.1 in
       elim (cases_lt (order_of rule) (order_of GiveUp)) [
         | inl before_it ↦ g.first rule place chain before_it first.fits
@@ -159,10 +160,10 @@ module _ (incarnation clock : ℕ) (newest : Decree) (older : List Decree) (gran
       ]
   abandons_none rule place chain first apart act due = due
 
-  pub tick_exact : (rule : Rule) (chain : List Decree) → IsFirstRule 1 1 now no_records up first_id (length (newest ∷ older)) chain rule →
-      (abandons : List Act) → AreDue (DueToAbandon 1 1 now no_records (Tick moment up)) abandons → (acts : List Act) →
+  pub tick_exact : (rule : Rule) (chain : List Decree) → IsFirstRule 1 1 now no_records reach first_id (length (newest ∷ older)) chain rule →
+      (abandons : List Act) → AreDue (DueToAbandon 1 1 now no_records (Tick moment reach)) abandons → (acts : List Act) →
       acts ≡ (rounds chain ++ abandons) ++ Ticks moment ∷ [] →
-      IsExact first_setup before no_records (Tick moment up) acts
+      IsExact first_setup before no_records (Tick moment reach) acts
   tick_exact rule chain first abandons abandoned acts is = record {
     core = Ticks moment ∷ [];
     settles = [];
@@ -176,8 +177,8 @@ module _ (incarnation clock : ℕ) (newest : Decree) (older : List Decree) (gran
     acts_are = is ∙ ap (λ (xs : List Act). xs ++ Ticks moment ∷ []) (ends (rounds chain ++ abandons));
     core_is = refl;
     settled = none_due (DueToSettle 1 1 now) settles_none;
-    ended = none_due (DueToEnd (Tick moment up) now) ends_none;
-    asked = none_due (DueToAsk 1 1 before now (Tick moment up)) asks_none;
+    ended = none_due (DueToEnd (Tick moment reach) now) ends_none;
+    asked = none_due (DueToAsk 1 1 before now (Tick moment reach)) asks_none;
     abandoned = abandoned;
     prepared = record { only = prepares_only rule chain first; all = prepares_all; order = tt };
     proposed = none_due_once (DueToPropose 1 1 before now) proposes_none;
@@ -185,18 +186,55 @@ module _ (incarnation clock : ℕ) (newest : Decree) (older : List Decree) (gran
     reported = none_due (DueToReport 1 1 before now) reports_none;
   }
 
+  -- and if no rule fits, the tick does nothing else
+  module _ (none : (rule : Rule) (place : ℕ) (chain : List Decree) → FitsRule 1 1 now no_records reach first_id place chain rule → ⊥) where
+    not_prepared : (act : Act) → DueToPrepare 1 1 before now no_records (Tick moment reach) act → ⊥
+    not_prepared (Prepares slot ballot chain) due =
+        let id = rule_id slot.id slot.place chain due.0.0 due.0.1.fits in
+        none due.0.0 slot.place chain (subst (λ (i : ℕ). FitsRule 1 1 now no_records reach i slot.place chain due.0.0) id due.0.1.fits)
+    not_prepared act due = due
+
+    not_abandoned : (act : Act) → DueToAbandon 1 1 now no_records (Tick moment reach) act → ⊥
+    not_abandoned (Abandons slot) due =
+        let id = rule_id slot.id (suc slot.place) due.0 GiveUp due.1.fits in
+        none GiveUp (suc slot.place) due.0 (subst (λ (i : ℕ). FitsRule 1 1 now no_records reach i (suc slot.place) due.0 GiveUp) id due.1.fits)
+    not_abandoned act due = due
+
+    pub nothing_exact : IsExact first_setup before no_records (Tick moment reach) (Ticks moment ∷ [])
+    nothing_exact = record {
+      core = Ticks moment ∷ [];
+      settles = [];
+      late = [];
+      asks = [];
+      abandons = [];
+      prepares = [];
+      proposes = [];
+      replies = [];
+      reports = [];
+      acts_are = refl;
+      core_is = refl;
+      settled = none_due (DueToSettle 1 1 now) settles_none;
+      ended = none_due (DueToEnd (Tick moment reach) now) ends_none;
+      asked = none_due (DueToAsk 1 1 before now (Tick moment reach)) asks_none;
+      abandoned = none_due (DueToAbandon 1 1 now no_records (Tick moment reach)) not_abandoned;
+      prepared = none_due_once (DueToPrepare 1 1 before now no_records (Tick moment reach)) not_prepared;
+      proposed = none_due_once (DueToPropose 1 1 before now) proposes_none;
+      replied = none_due (DueToReply 1 1 now) replies_none;
+      reported = none_due (DueToReport 1 1 before now) reports_none;
+    }
+
 -- ---- the rules, one by one
 
 module _ (incarnation clock : ℕ) (newest : Decree) (older : List Decree) (granted : List Slot) (closed : List (Slot × Outcome)) (moment : ℕ)
-    (up : List ℕ → Bool) where
+    (reach : Reach) where
   abbrev after_tick : Actor
   after_tick = did 1 (knowing incarnation clock (newest ∷ older) granted closed) (Ticks moment ∷ [])
 
   abbrev Fits : ℕ → List Decree → Rule → Type 0
-  Fits place chain rule = FitsRule 1 1 after_tick no_records up first_id place chain rule
+  Fits place chain rule = FitsRule 1 1 after_tick no_records reach first_id place chain rule
 
   is_newest : (place : ℕ) (chain : List Decree) (kind : Kind) (further : GoesFurther 1 1 after_tick first_id place chain kind) → further.newest ≡ newest
-  is_newest = further_is incarnation clock newest older granted closed moment up first_id
+  is_newest = further_is incarnation clock newest older granted closed moment reach first_id
 
   -- no request waits, and no vote is its own
   first_two : (place : ℕ) (chain : List Decree) (rule : Rule) → order_of rule < 3 → Fits place chain rule → ⊥
@@ -278,7 +316,7 @@ try_first message tried = record {
       further = goes_further 1 opening_clock (decreed (Taken message)) [] [] [] opening_clock all_up message (Attempt 1) refl;
       may = (omega arith, record { first = refl; scheduled = tried.scheduled; valid = tried.valid });
     };
-    target_up = refl;
+    begins = refl;
   };
   first = before_last 1 opening_clock (decreed (Taken message)) [] [] [] opening_clock all_up (λ number same. cc) 9 others;
 }
@@ -468,21 +506,70 @@ announce_first message asked = record {
     others GiveUp place chain late below fits = omega (arith, late)
     others Delete place chain late below fits = omega (arith, late)
 
+-- ---- no attempt begins of a message of which none may
+
+of_ten : (rule : Rule) → order_of rule < 11
+of_ten Take = omega arith
+of_ten Follow = omega arith
+of_ten Close = omega arith
+of_ten Lose = omega arith
+of_ten GiveUp = omega arith
+of_ten Delete = omega arith
+of_ten Expire = omega arith
+of_ten Undeliver = omega arith
+of_ten Try = omega arith
+of_ten Announce = omega arith
+
+none_fits : (message : Submission) → MayBeTried message → (rule : Rule) (place : ℕ) (chain : List Decree) →
+    FitsRule 1 1 (after_tick 1 opening_clock (decreed (Taken message)) [] [] [] opening_clock none_begin) no_records none_begin first_id place chain rule → ⊥
+none_fits message tried rule place chain fits =
+    before_last 1 opening_clock (decreed (Taken message)) [] [] [] opening_clock none_begin (λ number same. cc) 11 others rule place chain (of_ten rule) fits
+  where
+    others : (rule : Rule) (place : ℕ) (chain : List Decree) → 6 < order_of rule → order_of rule < 11 →
+        FitsRule 1 1 (after_tick 1 opening_clock (decreed (Taken message)) [] [] [] opening_clock none_begin) no_records none_begin first_id place chain rule →
+        ⊥
+    others Expire place chain late below fits =
+        let due = due_here 1 opening_clock (decreed (Taken message)) [] [] [] opening_clock none_begin place chain (Fate Expired 0) message refl fits in
+        let over : message.expiry ≤ opening_clock = due.1 in
+        let valid = tried.valid in
+        omega (arith, over, valid)
+    others Undeliver place chain late below fits =
+        let kinds : Taken message ≡ Failed fits.error = ap (λ (d : Decree). d.kind)
+        (sym (is_newest 1 opening_clock (decreed (Taken message)) [] [] [] opening_clock none_begin place chain _ fits.due.further)) ∙ fits.failed in
+        cc
+    others Try place chain late below fits = let begins : false ≡ true = fits.begins in cc
+    others Announce place chain late below fits =
+        (due_here 1 opening_clock (decreed (Taken message)) [] [] [] opening_clock none_begin place chain Told message refl fits).1
+    others Take place chain late below fits = omega (arith, late)
+    others Follow place chain late below fits = omega (arith, late)
+    others Close place chain late below fits = omega (arith, late)
+    others Lose place chain late below fits = omega (arith, late)
+    others GiveUp place chain late below fits = omega (arith, late)
+    others Delete place chain late below fits = omega (arith, late)
+
+pub held_back_step : (message : Submission) → MayBeTried message →
+    IsStepAlone first_setup (node_of_actor (knowing 1 opening_clock (taken_chain message) [] [])) (Tick opening_clock none_begin)
+    (Ticks opening_clock ∷ [])
+held_back_step message tried = record {
+  run = (record { least = omega arith; most = omega arith; up = refl; needs = tt }, tt);
+  exact = nothing_exact 1 opening_clock (decreed (Taken message)) [] [] [] opening_clock none_begin (none_fits message tried);
+}
+
 -- ---- as steps of the node
 
 started_alone : (incarnation clock : ℕ) (newest : Decree) (older : List Decree) (granted : List Slot) (closed : List (Slot × Outcome))
-    (moment : ℕ) (up : List ℕ → Bool) (rule : Rule) (chain : List Decree) → proposer_of (opening_ballot incarnation) ≡ 1 →
+    (moment : ℕ) (reach : Reach) (rule : Rule) (chain : List Decree) → proposer_of (opening_ballot incarnation) ≡ 1 →
     incarnation_in (opening_ballot incarnation) ≡ incarnation →
-    IsFirstRule 1 1 (after_tick incarnation clock newest older granted closed moment up) no_records up first_id (length (newest ∷ older)) chain rule →
+    IsFirstRule 1 1 (after_tick incarnation clock newest older granted closed moment reach) no_records reach first_id (length (newest ∷ older)) chain rule →
     (order_of rule ≡ order_of GiveUp → ⊥) → slot_of first_id chain ≡ slot_at first_id (length (newest ∷ older)) →
-    IsStepAlone first_setup (node_of_actor (knowing incarnation clock (newest ∷ older) granted closed)) (Tick moment up) (starting incarnation moment chain)
-started_alone incarnation clock newest older granted closed moment up rule chain proposer mine first apart place = record {
+    IsStepAlone first_setup (node_of_actor (knowing incarnation clock (newest ∷ older) granted closed)) (Tick moment reach) (starting incarnation moment chain)
+started_alone incarnation clock newest older granted closed moment reach rule chain proposer mine first apart place = record {
   run = (
     record { least = omega arith; most = omega arith; up = refl; needs = (proposer, mine) },
     (record { least = omega arith; most = omega arith; up = refl; needs = tt }, tt),
   );
-  exact = tick_exact incarnation clock newest older granted closed moment up rule chain first []
-      (none_due _ (abandons_none incarnation clock newest older granted closed moment up rule _ chain first apart))
+  exact = tick_exact incarnation clock newest older granted closed moment reach rule chain first []
+      (none_due _ (abandons_none incarnation clock newest older granted closed moment reach rule _ chain first apart))
       (starting incarnation moment chain) (ap (λ (s : Slot). Prepares s (opening_ballot incarnation) chain ∷ Ticks moment ∷ []) place);
 }
 

@@ -77,7 +77,7 @@ IsCore setup a records (Crash packet true) acts =
     IsStopped (IsHandled (Concerns setup.nodes setup.node a packet) (IsSaved records packet)) acts
 IsCore setup a records (Arrival request) acts = acts ≡ Begins a.ticket request ∷ []
 IsCore setup a records (Refusal status) acts = IsRefusal a status × (acts ≡ [])
-IsCore setup a records (Tick moment up) acts = acts ≡ Ticks moment ∷ []
+IsCore setup a records (Tick moment reach) acts = acts ≡ Ticks moment ∷ []
 IsCore setup a records (Grant slot) acts = acts ≡ Grants slot ∷ []
 IsCore setup a records (Response slot outcome) acts = acts ≡ Concludes slot outcome ∷ []
 IsCore setup a records (Restart lost) acts = acts ≡ Restarts lost setup.first_serial ∷ []

@@ -1,8 +1,9 @@
 -- The rules of a tick in their order, of which the first that fits starts a round (own).
-use Rattle.std.specs.Prelude.{ℕ, ◌<◌, Bool, List}
+use Rattle.std.specs.Prelude.{ℕ, ◌<◌, List}
 use Rattle.mc_model.specs.message.Decree.{Decree, Expired, Fate, Told}
 use Rattle.mc_model.specs.synod.Acceptor.{Records}
 use Rattle.mc_model.specs.node.Actor.{Actor}
+use Rattle.mc_model.specs.node.Reach.{Reach}
 use Rattle.mc_model.specs.node.Rules.{
   FitsClose,
   FitsDelete,
@@ -43,21 +44,21 @@ order_of Try = 9
 order_of Announce = 10
 
 -- by a rule a round is to be started at a place, for a chain
-abbrev pub FitsRule : ℕ → ℕ → Actor → Records → (List ℕ → Bool) → ℕ → ℕ → List Decree → Rule → Type 0
-FitsRule nodes node a records up id place chain Take = FitsTake node a id place chain
-FitsRule nodes node a records up id place chain Follow = FitsFollow nodes node a records id place chain
-FitsRule nodes node a records up id place chain Close = FitsClose nodes node a id place chain
-FitsRule nodes node a records up id place chain Lose = FitsLose nodes node a id place chain
-FitsRule nodes node a records up id place chain GiveUp = FitsGiveUp nodes node a up id place chain
-FitsRule nodes node a records up id place chain Delete = FitsDelete nodes node a id place chain
-FitsRule nodes node a records up id place chain Expire = IsDue nodes node a id place chain (Fate Expired 0)
-FitsRule nodes node a records up id place chain Undeliver = FitsUndeliver nodes node a id place chain
-FitsRule nodes node a records up id place chain Try = FitsTry nodes node a up id place chain
-FitsRule nodes node a records up id place chain Announce = IsDue nodes node a id place chain Told
+abbrev pub FitsRule : ℕ → ℕ → Actor → Records → Reach → ℕ → ℕ → List Decree → Rule → Type 0
+FitsRule nodes node a records reach id place chain Take = FitsTake node a id place chain
+FitsRule nodes node a records reach id place chain Follow = FitsFollow nodes node a records id place chain
+FitsRule nodes node a records reach id place chain Close = FitsClose nodes node a id place chain
+FitsRule nodes node a records reach id place chain Lose = FitsLose nodes node a id place chain
+FitsRule nodes node a records reach id place chain GiveUp = FitsGiveUp nodes node a reach id place chain
+FitsRule nodes node a records reach id place chain Delete = FitsDelete nodes node a id place chain
+FitsRule nodes node a records reach id place chain Expire = IsDue nodes node a id place chain (Fate Expired 0)
+FitsRule nodes node a records reach id place chain Undeliver = FitsUndeliver nodes node a id place chain
+FitsRule nodes node a records reach id place chain Try = FitsTry nodes node a reach id place chain
+FitsRule nodes node a records reach id place chain Announce = IsDue nodes node a id place chain Told
 
 -- the first rule that fits
-pub record IsFirstRule (nodes node : ℕ) (a : Actor) (records : Records) (up : List ℕ → Bool) (id place : ℕ) (chain : List Decree)
+pub record IsFirstRule (nodes node : ℕ) (a : Actor) (records : Records) (reach : Reach) (id place : ℕ) (chain : List Decree)
     (rule : Rule) : Type 0 where
-  pub fits : FitsRule nodes node a records up id place chain rule
+  pub fits : FitsRule nodes node a records reach id place chain rule
   pub first : (earlier : Rule) (other : ℕ) (of : List Decree) → order_of earlier < order_of rule →
-      FitsRule nodes node a records up id other of earlier → ⊥
+      FitsRule nodes node a records reach id other of earlier → ⊥

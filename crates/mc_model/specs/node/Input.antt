@@ -1,8 +1,9 @@
 -- What comes to a node.
-use Rattle.std.specs.Prelude.{ℕ, Bool, List}
+use Rattle.std.specs.Prelude.{ℕ, Bool}
 use Rattle.mc_model.specs.synod.Packet.{Packet, Slot}
 use Rattle.mc_model.specs.node.Outcome.{Outcome}
 use Rattle.mc_model.specs.node.Actor.{Request}
+use Rattle.mc_model.specs.node.Reach.{Reach}
 
 pub data Input : Type 0 where
   Delivery : Packet → Input
@@ -11,8 +12,8 @@ pub data Input : Type 0 where
   -- a request that waits, and one that is answered at once, with this command_status
   Arrival : Request → Input
   Refusal : ℕ → Input
-  -- a moment, and which accounts have a session that may receive
-  Tick : ℕ → (List ℕ → Bool) → Input
+  -- a moment, with which accounts have a session that may receive, and of which messages an attempt may begin
+  Tick : ℕ → Reach → Input
   -- an attempt is asked for, and what came of one
   Grant : Slot → Input
   Response : Slot → Outcome → Input

@@ -41,24 +41,24 @@ pub record IsTooLate (a : Actor) (ticket id : ℕ) : Type 0 where
   pub late : asked.waiting.since + longest_wait ≤ a.clock
 
 abbrev pub DueToEnd : Input → Actor → Act → Type 0
-DueToEnd (Tick moment up) a (Replies ticket id TooLate) = IsTooLate a ticket id
+DueToEnd (Tick moment reach) a (Replies ticket id TooLate) = IsTooLate a ticket id
 DueToEnd input a act = ⊥
 
 abbrev pub DueToAsk : ℕ → ℕ → Actor → Actor → Input → Act → Type 0
-DueToAsk nodes node before a (Tick moment up) (Asks id ticket) = IsUntold nodes node a id ticket
+DueToAsk nodes node before a (Tick moment reach) (Asks id ticket) = IsUntold nodes node a id ticket
 DueToAsk nodes node before a input (Asks id ticket) = IsAsking before input id ticket
 DueToAsk nodes node before a input act = ⊥
 
 -- in a tick, an attempt is given up that was not granted and whose target is not up
 abbrev pub DueToAbandon : ℕ → ℕ → Actor → Records → Input → Act → Type 0
-DueToAbandon nodes node a records (Tick moment up) (Abandons slot) =
-    (chain : List Decree) × IsFirstRule nodes node a records up slot.id (suc slot.place) chain GiveUp
+DueToAbandon nodes node a records (Tick moment reach) (Abandons slot) =
+    (chain : List Decree) × IsFirstRule nodes node a records reach slot.id (suc slot.place) chain GiveUp
 DueToAbandon nodes node a records input act = ⊥
 
 -- a round is started by the first rule of a tick that fits, or by what came
 abbrev pub IsStarted : ℕ → ℕ → Actor → Actor → Records → Input → ℕ → ℕ → List Decree → Type 0
-IsStarted nodes node before a records (Tick moment up) id place chain =
-    (rule : Rule) × IsFirstRule nodes node a records up id place chain rule
+IsStarted nodes node before a records (Tick moment reach) id place chain =
+    (rule : Rule) × IsFirstRule nodes node a records reach id place chain rule
 IsStarted nodes node before a records input id place chain = Causes nodes node before a input id place chain
 
 abbrev pub DueToPrepare : ℕ → ℕ → Actor → Actor → Records → Input → Act → Type 0

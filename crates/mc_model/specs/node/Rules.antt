@@ -1,5 +1,5 @@
 -- By which rules a tick starts a round (own).
-use Rattle.std.specs.Prelude.{◌≡◌, ◌⊎◌, ℕ, pred, ◌<◌, ◌≤◌, max, Bool, true, false, List, ◌∷◌, length, Some}
+use Rattle.std.specs.Prelude.{◌≡◌, ◌⊎◌, ℕ, pred, ◌<◌, ◌≤◌, max, true, false, List, ◌∷◌, length, Some}
 use Rattle.mc_model.specs.message.Submission.{Submission}
 use Rattle.mc_model.specs.message.Decree.{Attempt, Decree, Deleted, Failed, Fate, Kind, Taken, Undeliverable}
 use Rattle.mc_model.specs.message.Chain.{MayExtend, taken_in}
@@ -10,6 +10,7 @@ use Rattle.mc_model.specs.synod.Acceptor.{Records}
 use Rattle.mc_model.specs.node.Outcome.{Outcome, decree_of, no_session_error, older_incarnation_error}
 use Rattle.mc_model.specs.node.Actor.{Actor, Waiting, id_in, name_of}
 use Rattle.mc_model.specs.node.Knowledge.{Knows}
+use Rattle.mc_model.specs.node.Reach.{Reach, may_begin}
 use Rattle.mc_model.specs.node.Proposal.{IsCancelled, IsFirst}
 
 -- a place at which somebody voted is beyond what the node knows
@@ -90,13 +91,13 @@ pub record FitsLose (nodes node : ℕ) (a : Actor) (id place : ℕ) (chain : Lis
   pub before : further.newest.author.incarnation < a.incarnation
 
 -- one that was not granted has no target that is up
-pub record FitsGiveUp (nodes node : ℕ) (a : Actor) (up : List ℕ → Bool) (id place : ℕ) (chain : List Decree) : Type 0 where
+pub record FitsGiveUp (nodes node : ℕ) (a : Actor) (reach : Reach) (id place : ℕ) (chain : List Decree) : Type 0 where
   pub further : GoesFurther nodes node a id place chain (Failed no_session_error)
   pub attempt : IsAttemptBy node further.newest
   pub now : further.newest.author.incarnation ≡ a.incarnation
   pub granted : In (slot_of id (further.newest ∷ further.older)) a.granted → ⊥
   pub closed : (outcome : Outcome) → In (slot_of id (further.newest ∷ further.older), outcome) a.closed → ⊥
-  pub down : up further.taken.target ≡ false
+  pub down : reach.up further.taken.target ≡ false
 
 -- a cancel_sm waits that may delete the message
 pub record FitsDelete (nodes node : ℕ) (a : Actor) (id place : ℕ) (chain : List Decree) : Type 0 where
@@ -115,8 +116,8 @@ pub record FitsUndeliver (nodes node : ℕ) (a : Actor) (id place : ℕ) (chain 
   pub due : IsDue nodes node a id place chain (Fate Undeliverable error)
   pub failed : due.further.newest.kind ≡ Failed error
 
--- the next attempt is due, and its target is up
-pub record FitsTry (nodes node : ℕ) (a : Actor) (up : List ℕ → Bool) (id place : ℕ) (chain : List Decree) : Type 0 where
+-- the next attempt is due and may begin
+pub record FitsTry (nodes node : ℕ) (a : Actor) (reach : Reach) (id place : ℕ) (chain : List Decree) : Type 0 where
   pub number : ℕ
   pub due : IsDue nodes node a id place chain (Attempt number)
-  pub target_up : up due.further.taken.target ≡ true
+  pub begins : may_begin reach id due.further.taken.target ≡ true

@@ -56,8 +56,8 @@ module _ (nodes node : ℕ) (before a : Actor) (records : Records) (input : Inpu
   prepares_by act due = absurd due
 
 ends_by : (a : Actor) (input : Input) (act : Act) → DueToEnd input a act → IsBy input act
-ends_by a (Tick moment up) (Replies ticket id answer) due = tt
-ends_by a (Tick moment up) act due = absurd due
+ends_by a (Tick moment reach) (Replies ticket id answer) due = tt
+ends_by a (Tick moment reach) act due = absurd due
 ends_by a (Delivery packet) act due = absurd due
 ends_by a (Crash packet after) act due = absurd due
 ends_by a (Arrival request) act due = absurd due
@@ -67,8 +67,8 @@ ends_by a (Response slot outcome) act due = absurd due
 ends_by a (Restart lost) act due = absurd due
 
 asks_by : (nodes node : ℕ) (before a : Actor) (input : Input) (act : Act) → DueToAsk nodes node before a input act → IsBy input act
-asks_by nodes node before a (Tick moment up) (Asks id ticket) due = tt
-asks_by nodes node before a (Tick moment up) act due = absurd due
+asks_by nodes node before a (Tick moment reach) (Asks id ticket) due = tt
+asks_by nodes node before a (Tick moment reach) act due = absurd due
 asks_by nodes node before a (Delivery packet) (Asks id ticket) due = tt
 asks_by nodes node before a (Delivery packet) act due = absurd due
 asks_by nodes node before a (Crash packet after) (Asks id ticket) due = tt
@@ -85,8 +85,8 @@ asks_by nodes node before a (Restart lost) (Asks id ticket) due = tt
 asks_by nodes node before a (Restart lost) act due = absurd due
 
 abandons_by : (nodes node : ℕ) (a : Actor) (records : Records) (input : Input) (act : Act) → DueToAbandon nodes node a records input act → IsBy input act
-abandons_by nodes node a records (Tick moment up) (Abandons slot) due = tt
-abandons_by nodes node a records (Tick moment up) act due = absurd due
+abandons_by nodes node a records (Tick moment reach) (Abandons slot) due = tt
+abandons_by nodes node a records (Tick moment reach) act due = absurd due
 abandons_by nodes node a records (Delivery packet) act due = absurd due
 abandons_by nodes node a records (Crash packet after) act due = absurd due
 abandons_by nodes node a records (Arrival request) act due = absurd due
@@ -144,7 +144,7 @@ core_by setup a records (Crash packet true) acts it =
     (handled_by (Crash packet true) _ (IsSaved records packet) it.before (saved_by records (Crash packet true) packet it.before) it.handled)
 core_by setup a records (Arrival request) acts same = only_by (Arrival request) acts _ same refl
 core_by setup a records (Refusal status) acts it = none_by (Refusal status) acts it.1
-core_by setup a records (Tick moment up) acts same = only_by (Tick moment up) acts _ same tt
+core_by setup a records (Tick moment reach) acts same = only_by (Tick moment reach) acts _ same tt
 core_by setup a records (Grant slot) acts same = only_by (Grant slot) acts _ same refl
 core_by setup a records (Response slot outcome) acts same = only_by (Response slot outcome) acts _ same refl
 core_by setup a records (Restart lost) acts same = only_by (Restart lost) acts _ same refl

@@ -29,7 +29,7 @@ module _ (cluster : Cluster) where
   came w packets same (Crash packet after) sent = subst (In packet) same sent
   came w packets same (Arrival request) sent = tt
   came w packets same (Refusal status) sent = tt
-  came w packets same (Tick moment up) sent = tt
+  came w packets same (Tick moment reach) sent = tt
   came w packets same (Grant slot) sent = tt
   came w packets same (Response slot outcome) sent = tt
   came w packets same (Restart lost) sent = tt

@@ -22,7 +22,7 @@ grant_only (Delivery packet) slot same = absurd (cc)
 grant_only (Crash packet after) slot same = absurd (cc)
 grant_only (Arrival request) slot same = absurd (cc)
 grant_only (Refusal status) slot same = absurd (cc)
-grant_only (Tick moment up) slot same = absurd (cc)
+grant_only (Tick moment reach) slot same = absurd (cc)
 grant_only (Response other outcome) slot same = absurd (cc)
 grant_only (Restart lost) slot same = absurd (cc)
 

@@ -6,6 +6,7 @@ use Rattle.std.proofs.lemmas.Bool.{true≢false}
 use Rattle.std.proofs.lemmas.Bool.Decides.{Decides-and}
 use Rattle.std.proofs.lemmas.Grind.{reverse_onto}
 use Rattle.std.proofs.lemmas.List.{reverse-append}
+use Rattle.mc_model.specs.node.Reach.{Reach}
 use Rattle.mc_model.specs.message.Submission.{Submission}
 use Rattle.mc_model.specs.synod.Acceptor.{Records}
 use Rattle.mc_model.specs.synod.Lists.{In}
@@ -96,9 +97,9 @@ not_decides true P decides = ((λ t. absurd (true≢false (sym t))), (λ none. a
 not_decides false P decides = ((λ t. λ p. true≢false (sym (decides.1 p))), (λ none. refl))
 
 module _ (setup : Setup) (before a : Actor) (held : List Held) (waiting : map (λ h. h.waiting) held ≡ a.waiting) (ascends : Ascend held)
-    (told : (h : Held) → In h held → IsHeld a.received (name_of setup.node a h.waiting) h) (moment : ℕ) (up : List ℕ → Bool) where
+    (told : (h : Held) → In h held → IsHeld a.received (name_of setup.node a h.waiting) h) (moment : ℕ) (reach : Reach) where
   abbrev Due : Act → Type 0
-  Due = DueToAsk setup.nodes setup.node before a (Tick moment up)
+  Due = DueToAsk setup.nodes setup.node before a (Tick moment reach)
 
   abbrev untold : List Held
   untold = filter (is_untold setup.nodes) held

@@ -1,5 +1,6 @@
 -- A round that deletes a message for a cancel_sm, or tells its receipt, outside a tick.
 use Rattle.std.proofs.Common.{◌≡◌, ℕ, ◌≤◌, false, List, sym, subst, inr, arith}
+use Rattle.mc_model.specs.node.Reach.{of_all}
 use Rattle.mc_model.specs.message.Decree.{Decree, Told}
 use Rattle.mc_model.specs.synod.Packet.{slot_at}
 use Rattle.mc_model.specs.node.Alone.{Node, StandsAt}
@@ -16,11 +17,11 @@ use Rattle.node_laws.proofs.step.Started.{IsDueStart}
 -- by a rule for what is known: what fits it may be started, if it is due and nothing is at another place
 rule_start : (setup : Setup) (s : Node) → IsCoherent setup.node s.actor → (id : ℕ) (rule : Rule) → 3 ≤ order_of rule → (Due : ℕ → List Decree → Type 0)
     (start : Start) → Due start.place start.chain → ((place : ℕ) (chain : List Decree) → Due place chain → place ≡ start.place) →
-    FitsRule setup.nodes setup.node s.actor s.records (λ account. false) id start.place start.chain rule →
+    FitsRule setup.nodes setup.node s.actor s.records (of_all (λ account. false)) id start.place start.chain rule →
     IsNext (IsLearned setup.nodes s.actor.received) setup.node s.actor id start.chain →
     IsDueStart setup s id Due start
 rule_start setup s coherent id rule late Due start due only fits next =
-    let at = rule_place setup.nodes setup.node s.actor coherent s.records (λ account. false) id rule start.place start.chain late fits in
+    let at = rule_place setup.nodes setup.node s.actor coherent s.records (of_all (λ account. false)) id rule start.place start.chain late fits in
     record {
       due = due;
       only = only;
@@ -37,7 +38,7 @@ pub deletes_start : (setup : Setup) (s : Node) → IsCoherent setup.node s.actor
     IsDueStart setup s id Due start
 deletes_start setup s coherent id Due start due only fits =
     rule_start setup s coherent id Delete (omega arith) Due start due only fits
-    (rule_next setup.nodes setup.node s.actor coherent s.records (λ account. false) id Delete start.place start.chain (omega arith) fits)
+    (rule_next setup.nodes setup.node s.actor coherent s.records (of_all (λ account. false)) id Delete start.place start.chain (omega arith) fits)
 
 -- that a receipt is told
 pub tells_start : (setup : Setup) (s : Node) → IsCoherent setup.node s.actor → (id : ℕ) (Due : ℕ → List Decree → Type 0) (start : Start) →
@@ -46,4 +47,4 @@ pub tells_start : (setup : Setup) (s : Node) → IsCoherent setup.node s.actor �
     IsDueStart setup s id Due start
 tells_start setup s coherent id Due start due only fits =
     rule_start setup s coherent id Announce (omega arith) Due start due only fits
-    (rule_next setup.nodes setup.node s.actor coherent s.records (λ account. false) id Announce start.place start.chain (omega arith) fits)
+    (rule_next setup.nodes setup.node s.actor coherent s.records (of_all (λ account. false)) id Announce start.place start.chain (omega arith) fits)

@@ -4,6 +4,7 @@ use Rattle.std.proofs.Common.{inr, arith}
 use Rattle.std.specs.Prelude.{if◌then◌else◌}
 use Rattle.std.specs.Option.{option_or}
 use Rattle.std.proofs.lemmas.Bool.{true≢false}
+use Rattle.mc_model.specs.node.Reach.{Reach, may_begin}
 use Rattle.mc_model.specs.message.Submission.{Submission}
 use Rattle.mc_model.specs.message.Decree.{Attempt, Author, Decree, Expired, Failed, Fate, Told, Kind, Taken}
 use Rattle.mc_model.specs.message.Neighbours.{MayFollow}
@@ -92,9 +93,9 @@ at_order Announce = refl
 pub same_rule : (one other : Rule) → order_of one ≡ order_of other → one ≡ other
 same_rule one other same = sym (at_order one) ∙ ap rule_at same ∙ at_order other
 
-module _ (setup : Setup) (a : Actor) (records : Records) (k : Kept) (up : List ℕ → Bool) (id : ℕ) where
+module _ (setup : Setup) (a : Actor) (records : Records) (k : Kept) (reach : Reach) (id : ℕ) where
   abbrev pub Fits : Rule → ℕ → List Decree → Type 0
-  Fits rule place chain = FitsRule setup.nodes setup.node a records up id place chain rule
+  Fits rule place chain = FitsRule setup.nodes setup.node a records reach id place chain rule
 
   -- of the rules from this order on, the one that was found is the first that fits
   pub record IsFirstFrom (order : ℕ) (fit : Fitting) : Type 0 where
@@ -158,13 +159,13 @@ module _ (setup : Setup) (a : Actor) (records : Records) (k : Kept) (up : List �
           (g : GoesFurther setup.nodes setup.node a id place chain kind) → IsAttemptBy setup.node g.newest → ⊥
       no_attempt other place chain kind g own = other (subst (λ (n : Decree). IsAttemptBy setup.node n) (newest_is place chain kind g) own)
 
-      attempt_found : IsAttemptBy setup.node newest → FoundFrom 3 (attempt_rule setup k (message_at k id) (up taken.target) newest older)
+      attempt_found : IsAttemptBy setup.node newest → FoundFrom 3 (attempt_rule setup k (message_at k id) (reach.up taken.target) newest older)
       attempt_found own =
           rule_then Close _ _ (close_decided setup a k id agrees.incarnation agrees.clock newest older taken known message
           (message_at k id) agrees.attempts own)
           (rule_then Lose _ _ (lose_decided setup a k id agrees.incarnation agrees.clock newest older taken known message (message_at k id) agrees.attempts own)
           (last_rule GiveUp _ (give_up_decided setup a k id agrees.incarnation agrees.clock newest older taken known message
-          (message_at k id) agrees.attempts own up) none_waits))
+          (message_at k id) agrees.attempts own reach) none_waits))
         where
           kind_at : (place : ℕ) (chain : List Decree) (kind : Kind) → (g : GoesFurther setup.nodes setup.node a id place chain kind) →
               g.newest.kind ≡ Attempt own.0.0
@@ -208,7 +209,7 @@ module _ (setup : Setup) (a : Actor) (records : Records) (k : Kept) (up : List �
               (next_decree setup.node a fits.further.newest Told).moment
               fits.may.1
 
-      idle_found : (IsAttemptBy setup.node newest → ⊥) → FoundFrom 3 (idle_rule setup k id taken (up taken.target) newest older)
+      idle_found : (IsAttemptBy setup.node newest → ⊥) → FoundFrom 3 (idle_rule setup k id taken (may_begin reach id taken.target) newest older)
       idle_found other =
           passed Close (λ place chain fits. no_attempt other place chain _ fits.further fits.attempt) _
           (passed Lose (λ place chain fits. no_attempt other place chain _ fits.further fits.attempt) _
@@ -216,7 +217,7 @@ module _ (setup : Setup) (a : Actor) (records : Records) (k : Kept) (up : List �
           (rule_then Delete _ _ deletes
           (rule_then Expire _ _ (expire_decided setup a k id agrees.incarnation agrees.clock newest older taken known message)
           (rule_then Undeliver _ _ (undeliver_decided setup a k id agrees.incarnation agrees.clock newest older taken known message)
-          (rule_then Try _ _ (try_decided setup a k id agrees.incarnation agrees.clock newest older taken known message up)
+          (rule_then Try _ _ (try_decided setup a k id agrees.incarnation agrees.clock newest older taken known message reach)
           (last_rule Announce _ (announce_decided setup a k id agrees.incarnation agrees.clock newest older taken known message) none_later)))))))
         where
           none_later : FoundFrom 11 None
@@ -235,12 +236,12 @@ module _ (setup : Setup) (a : Actor) (records : Records) (k : Kept) (up : List �
           deletes = subst (λ (t : Option Submission). Decided (delete_of setup k id k.held newest older t) (Fits Delete)) (sym message)
               (delete_decided setup a k id agrees.incarnation agrees.clock newest older taken known message agrees.waiting)
 
-      own_found : FoundFrom 3 (own_rule setup k up id newest older (Some taken))
+      own_found : FoundFrom 3 (own_rule setup k reach id newest older (Some taken))
       own_found = by_test (is_attempt_by setup.node newest newest.kind) refl
         where
           by_test : (test : Bool) → is_attempt_by setup.node newest newest.kind ≡ test →
-              FoundFrom 3 (if test then attempt_rule setup k (message_at k id) (up taken.target) newest older
-              else idle_rule setup k id taken (up taken.target) newest older)
+              FoundFrom 3 (if test then attempt_rule setup k (message_at k id) (reach.up taken.target) newest older
+              else idle_rule setup k id taken (may_begin reach id taken.target) newest older)
           by_test true own = attempt_found ((attempt_decides setup.node newest).0 own)
           by_test false other = idle_found (λ own. true≢false (sym ((attempt_decides setup.node newest).1 own) ∙ other))
 
@@ -249,23 +250,23 @@ module _ (setup : Setup) (a : Actor) (records : Records) (k : Kept) (up : List �
         taken_in (newest ∷ older) ≡ Some taken → ⊥) →
         FoundFrom 3 None
     none_further none rule place chain late fits =
-        let it = goes_on setup.nodes setup.node a records up id rule place chain late fits in
+        let it = goes_on setup.nodes setup.node a records reach id rule place chain late fits in
         none it.further.newest it.further.older it.further.taken it.further.known it.further.message
 
-    known_found : (known : Option (List Decree)) → IsKnown setup.nodes a.received id known → FoundFrom 3 (known_rule setup k up id known)
+    known_found : (known : Option (List Decree)) → IsKnown setup.nodes a.received id known → FoundFrom 3 (known_rule setup k reach id known)
     known_found None nothing = none_further (λ newest older taken known message. nothing _ _ known.learned)
     known_found (Some []) knows = none_further (λ newest older taken known message.
         let same : newest ∷ older ≡ [] = knows_one setup.nodes a.received id (newest ∷ older) [] known knows in absurd (cc))
     known_found (Some (newest ∷ older)) knows = by_taken (taken_in (newest ∷ older)) refl
       where
-        by_taken : (taken : Option Submission) → taken_in (newest ∷ older) ≡ taken → FoundFrom 3 (own_rule setup k up id newest older taken)
+        by_taken : (taken : Option Submission) → taken_in (newest ∷ older) ≡ taken → FoundFrom 3 (own_rule setup k reach id newest older taken)
         by_taken None is = none_further (λ further before taken known message.
             let same : further ∷ before ≡ newest ∷ older = knows_one setup.nodes a.received id (further ∷ before) (newest ∷ older) known knows in
             let both : Some taken ≡ None = sym message ∙ ap taken_in same ∙ is in
             absurd (cc))
         by_taken (Some taken) is = own_found newest older taken knows is
 
-    pub first_found : FoundFrom 1 (first_rule setup k up id)
+    pub first_found : FoundFrom 1 (first_rule setup k reach id)
     first_found =
         rule_then Take _ _ (take_decided setup k id a agrees.incarnation agrees.waiting)
         (rule_then Follow _ _ (follow_decided setup a records k id agrees.same_records agrees.placed agrees.waiting agrees.told agrees.known)
@@ -273,7 +274,7 @@ module _ (setup : Setup) (a : Actor) (records : Records) (k : Kept) (up : List �
 
 -- ---- as the model says it
 
-module _ (setup : Setup) (a : Actor) (records : Records) (k : Kept) (up : List ℕ → Bool) (id : ℕ) (agrees : AgreesOn setup a records k id) where
+module _ (setup : Setup) (a : Actor) (records : Records) (k : Kept) (reach : Reach) (id : ℕ) (agrees : AgreesOn setup a records k id) where
   least : (rule : Rule) → 1 ≤ order_of rule
   least Take = omega arith
   least Follow = omega arith
@@ -286,16 +287,16 @@ module _ (setup : Setup) (a : Actor) (records : Records) (k : Kept) (up : List �
   least Try = omega arith
   least Announce = omega arith
 
-  pub is_first : (fit : Fitting) → first_rule setup k up id ≡ Some fit →
-      IsFirstRule setup.nodes setup.node a records up id fit.start.place fit.start.chain fit.rule
+  pub is_first : (fit : Fitting) → first_rule setup k reach id ≡ Some fit →
+      IsFirstRule setup.nodes setup.node a records reach id fit.start.place fit.start.chain fit.rule
   is_first fit is =
-      let found : IsFirstFrom setup a records k up id 1 fit = subst (FoundFrom setup a records k up id 1) is (first_found setup a records k up id agrees) in
+      let found : IsFirstFrom setup a records k reach id 1 fit = subst (FoundFrom setup a records k reach id 1) is (first_found setup a records k reach id agrees) in
       record { fits = found.fits; first = λ earlier place chain below fits. found.first earlier place chain (least earlier) below fits }
 
-  pub none_fits : first_rule setup k up id ≡ None → (rule : Rule) (place : ℕ) (chain : List Decree) →
-      FitsRule setup.nodes setup.node a records up id place chain rule → ⊥
+  pub none_fits : first_rule setup k reach id ≡ None → (rule : Rule) (place : ℕ) (chain : List Decree) →
+      FitsRule setup.nodes setup.node a records reach id place chain rule → ⊥
   none_fits is rule place chain fits =
-      let found : FoundFrom setup a records k up id 1 None = subst (FoundFrom setup a records k up id 1) is (first_found setup a records k up id agrees) in
+      let found : FoundFrom setup a records k reach id 1 None = subst (FoundFrom setup a records k reach id 1) is (first_found setup a records k reach id agrees) in
       found rule place chain (least rule) fits
 
 -- ---- of what is kept

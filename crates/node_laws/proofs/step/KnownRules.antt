@@ -7,6 +7,7 @@ use Rattle.std.specs.List.{list_any}
 use Rattle.std.specs.Option.{is_none}
 use Rattle.std.proofs.lemmas.Bool.{true≢false}
 use Rattle.std.proofs.lemmas.Bool.Decides.{Decides-and, Decides-eqb, Decides-ltb}
+use Rattle.mc_model.specs.node.Reach.{Reach, may_begin}
 use Rattle.mc_model.specs.message.Submission.{Submission}
 use Rattle.mc_model.specs.message.Decree.{Attempt, Author, Decree, Deleted, Expired, Failed, Fate, Told, Kind, Taken, Undeliverable, Final}
 use Rattle.mc_model.specs.message.Neighbours.{MayFollow, most_attempts, retry_delay}
@@ -222,16 +223,16 @@ module _ (setup : Setup) (a : Actor) (k : Kept) (id : ℕ) (incarnation : k.inca
           λ it. refl,
         )
 
-    pub give_up_decided : (up : List ℕ → Bool) →
-        Decided (if_so (newest.author.incarnation == k.incarnation) (giving_up setup k m (up taken.target) newest older))
-        (FitsGiveUp setup.nodes setup.node a up id)
-    give_up_decided up = by_now (newest.author.incarnation == k.incarnation) refl
+    pub give_up_decided : (reach : Reach) →
+        Decided (if_so (newest.author.incarnation == k.incarnation) (giving_up setup k m (reach.up taken.target) newest older))
+        (FitsGiveUp setup.nodes setup.node a reach id)
+    give_up_decided reach = by_now (newest.author.incarnation == k.incarnation) refl
       where
         by_test : newest.author.incarnation ≡ a.incarnation → (test : Bool) →
-            (not (m.granted (length older)) && (is_none (m.closed (length older)) && not (up taken.target))) ≡ test →
-            Decided (if test then Some (start_behind setup k newest older (Failed no_session_error)) else None) (FitsGiveUp setup.nodes setup.node a up id)
+            (not (m.granted (length older)) && (is_none (m.closed (length older)) && not (reach.up taken.target))) ≡ test →
+            Decided (if test then Some (start_behind setup k newest older (Failed no_session_error)) else None) (FitsGiveUp setup.nodes setup.node a reach id)
         by_test now true is =
-            let it = (untouched_decides (up taken.target)).0 is in
+            let it = (untouched_decides (reach.up taken.target)).0 is in
             record {
               further = goes (Failed no_session_error);
               attempt = own;
@@ -242,16 +243,16 @@ module _ (setup : Setup) (a : Actor) (k : Kept) (id : ℕ) (incarnation : k.inca
             }
         by_test now false is = λ place chain fits.
             let at = slot_here place chain (Failed no_session_error) fits.further in
-            let untouched : IsUntouched (up taken.target) = record {
+            let untouched : IsUntouched (reach.up taken.target) = record {
               granted = λ given. fits.granted (subst (λ (s : Slot). In s a.granted) (sym at) given);
               closed = λ outcome among. fits.closed outcome (subst (λ (s : Slot). In (s, outcome) a.closed) (sym at) among);
-              down = ap (λ (t : Submission). up t.target) (sym (here place chain (Failed no_session_error) fits.further).taken_is) ∙ fits.down;
+              down = ap (λ (t : Submission). reach.up t.target) (sym (here place chain (Failed no_session_error) fits.further).taken_is) ∙ fits.down;
             } in
-            true≢false (sym ((untouched_decides (up taken.target)).1 untouched) ∙ is)
+            true≢false (sym ((untouched_decides (reach.up taken.target)).1 untouched) ∙ is)
 
         by_now : (test : Bool) → (newest.author.incarnation == k.incarnation) ≡ test →
-            Decided (if_so test (giving_up setup k m (up taken.target) newest older)) (FitsGiveUp setup.nodes setup.node a up id)
-        by_now true now = by_test (now_decides.0 now) (not (m.granted (length older)) && (is_none (m.closed (length older)) && not (up taken.target))) refl
+            Decided (if_so test (giving_up setup k m (reach.up taken.target) newest older)) (FitsGiveUp setup.nodes setup.node a reach id)
+        by_now true now = by_test (now_decides.0 now) (not (m.granted (length older)) && (is_none (m.closed (length older)) && not (reach.up taken.target))) refl
         by_now false other = λ place chain fits.
             let same = ap (λ (n : Decree). n.author.incarnation) (here place chain (Failed no_session_error) fits.further).newest_is in
             true≢false (sym (now_decides.1 (sym same ∙ fits.now)) ∙ other)
@@ -351,24 +352,24 @@ module _ (setup : Setup) (a : Actor) (k : Kept) (id : ℕ) (incarnation : k.inca
       MayFollow taken (home_in (newest ∷ older)) (attempts_in (newest ∷ older)) newest.author newest.moment kind (next_decree setup.node a newest (Attempt number)).author
       (max a.clock newest.moment) (Attempt number)
 
-  module _ (up : List ℕ → Bool) where
+  module _ (reach : Reach) where
     abbrev Tries : ℕ → List Decree → Type 0
-    Tries = FitsTry setup.nodes setup.node a up id
+    Tries = FitsTry setup.nodes setup.node a reach id
 
     try_here : (place : ℕ) (chain : List Decree) (kind : Kind) → newest.kind ≡ kind → (fits : Tries place chain) → MayTry kind fits.number
     try_here place chain kind is fits = subst (λ (x : Kind). MayTry x fits.number) is (may_here place chain (Attempt fits.number) fits.due).1
 
-    none_up : up taken.target ≡ false → (place : ℕ) (chain : List Decree) → Tries place chain → ⊥
+    none_up : may_begin reach id taken.target ≡ false → (place : ℕ) (chain : List Decree) → Tries place chain → ⊥
     none_up down place chain fits =
-        let same = ap (λ (t : Submission). up t.target) (here place chain (Attempt fits.number) fits.due.further).taken_is in
-        true≢false (sym fits.target_up ∙ same ∙ down)
+        let same = ap (λ (t : Submission). may_begin reach id t.target) (here place chain (Attempt fits.number) fits.due.further).taken_is in
+        true≢false (sym fits.begins ∙ same ∙ down)
 
-    tries : (kind : Kind) (number : ℕ) → newest.kind ≡ kind → MayTry kind number → up taken.target ≡ true →
+    tries : (kind : Kind) (number : ℕ) → newest.kind ≡ kind → MayTry kind number → may_begin reach id taken.target ≡ true →
         Tries (start_behind setup k newest older (Attempt number)).place (start_behind setup k newest older (Attempt number)).chain
-    tries kind number is may target_up = record {
+    tries kind number is may begins = record {
       number = number;
       due = due (Attempt number) (later, subst (λ (x : Kind). MayTry x number) (sym is) may);
-      target_up = target_up;
+      begins = begins;
     }
 
     first_decides :
@@ -394,33 +395,33 @@ module _ (setup : Setup) (a : Actor) (k : Kept) (id : ℕ) (incarnation : k.inca
         (Decides-and _ _ (Decides-ltb (max a.clock newest.moment) taken.expiry)
         (nat_le_decides (newest.moment + retry_delay * attempts) (max a.clock newest.moment))))
 
-    first_tried : (of : Submission) → newest.kind ≡ Taken of → up taken.target ≡ true → (test : Bool) →
+    first_tried : (of : Submission) → newest.kind ≡ Taken of → may_begin reach id taken.target ≡ true → (test : Bool) →
         (nat_le taken.schedule (moment_behind k newest) && nat_lt (moment_behind k newest) taken.expiry) ≡ test →
         Decided (if test then Some (start_behind setup k newest older (Attempt 1)) else None) Tries
-    first_tried of is target_up true holds =
-        let both = first_decides.0 holds in tries (Taken of) 1 is (record { first = refl; scheduled = both.0; valid = both.1 }) target_up
-    first_tried of is target_up false fails = λ place chain fits.
+    first_tried of is begins true holds =
+        let both = first_decides.0 holds in tries (Taken of) 1 is (record { first = refl; scheduled = both.0; valid = both.1 }) begins
+    first_tried of is begins false fails = λ place chain fits.
         let may = try_here place chain (Taken of) is fits in true≢false (sym (first_decides.1 (may.scheduled, may.valid)) ∙ fails)
 
-    tried_again : (error : ℕ) → newest.kind ≡ Failed error → up taken.target ≡ true → (test : Bool) → again (moment_behind k newest) ≡ test →
+    tried_again : (error : ℕ) → newest.kind ≡ Failed error → may_begin reach id taken.target ≡ true → (test : Bool) → again (moment_behind k newest) ≡ test →
         Decided (if test then Some (start_behind setup k newest older (Attempt (attempts + 1))) else None) Tries
-    tried_again error is target_up true holds =
+    tried_again error is begins true holds =
         let all = again_decides.0 holds in
-        tries (Failed error) (attempts + 1) is (record { next = refl; most = all.0; valid = all.1.0; delayed = all.1.1 }) target_up
-    tried_again error is target_up false fails = λ place chain fits.
+        tries (Failed error) (attempts + 1) is (record { next = refl; most = all.0; valid = all.1.0; delayed = all.1.1 }) begins
+    tried_again error is begins false fails = λ place chain fits.
         let may = try_here place chain (Failed error) is fits in true≢false (sym (again_decides.1 (may.most, (may.valid, may.delayed))) ∙ fails)
 
-    pub try_decided : Decided (if_so (up taken.target) (tried setup k taken newest older newest.kind)) Tries
-    try_decided = by_up (up taken.target) refl
+    pub try_decided : Decided (if_so (may_begin reach id taken.target) (tried setup k taken newest older newest.kind)) Tries
+    try_decided = by_up (may_begin reach id taken.target) refl
       where
-        by_kind : up taken.target ≡ true → (kind : Kind) → newest.kind ≡ kind → Decided (tried setup k taken newest older kind) Tries
-        by_kind target_up (Taken of) is =
-            first_tried of is target_up (nat_le taken.schedule (moment_behind k newest) && nat_lt (moment_behind k newest) taken.expiry) refl
-        by_kind target_up (Attempt number) is = λ place chain fits. try_here place chain (Attempt number) is fits
-        by_kind target_up (Failed error) is = tried_again error is target_up (again (moment_behind k newest)) refl
-        by_kind target_up (Fate final error) is = λ place chain fits. try_here place chain (Fate final error) is fits
-        by_kind target_up Told is = λ place chain fits. try_here place chain Told is fits
+        by_kind : may_begin reach id taken.target ≡ true → (kind : Kind) → newest.kind ≡ kind → Decided (tried setup k taken newest older kind) Tries
+        by_kind begins (Taken of) is =
+            first_tried of is begins (nat_le taken.schedule (moment_behind k newest) && nat_lt (moment_behind k newest) taken.expiry) refl
+        by_kind begins (Attempt number) is = λ place chain fits. try_here place chain (Attempt number) is fits
+        by_kind begins (Failed error) is = tried_again error is begins (again (moment_behind k newest)) refl
+        by_kind begins (Fate final error) is = λ place chain fits. try_here place chain (Fate final error) is fits
+        by_kind begins Told is = λ place chain fits. try_here place chain Told is fits
 
-        by_up : (test : Bool) → up taken.target ≡ test → Decided (if_so test (tried setup k taken newest older newest.kind)) Tries
-        by_up true target_up = by_kind target_up newest.kind refl
+        by_up : (test : Bool) → may_begin reach id taken.target ≡ test → Decided (if_so test (tried setup k taken newest older newest.kind)) Tries
+        by_up true begins = by_kind begins newest.kind refl
         by_up false down = none_up down

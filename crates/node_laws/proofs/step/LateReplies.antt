@@ -2,6 +2,7 @@
 use Rattle.std.proofs.Common.{◌≡◌, ℕ, ◌+◌, ◌≤◌, Bool, true, false, cond, List, [], ◌∷◌, map, Option, Some, None, refl, sym, ap, subst, ◌∙◌}
 use Rattle.std.specs.Prelude.{filter, if◌then◌else◌, not, reverse}
 use Rattle.std.specs.Option.{is_none}
+use Rattle.mc_model.specs.node.Reach.{Reach}
 use Rattle.mc_model.specs.synod.Lists.{In}
 use Rattle.mc_model.specs.node.Act.{Act, Replies}
 use Rattle.mc_model.specs.node.Actor.{Actor, Waiting, id_in}
@@ -66,9 +67,9 @@ module _ (a : Actor) (held : List Held) (waiting : map (λ h. h.waiting) held �
   waits_here : (h : Held) → In h held → In h.waiting a.waiting
   waits_here h among = subst (λ (ws : List Waiting). In h.waiting ws) waiting (waits_among held h among)
 
-  module _ (moment : ℕ) (up : List ℕ → Bool) where
+  module _ (moment : ℕ) (reach : Reach) where
     abbrev Due : Act → Type 0
-    Due = DueToEnd (Tick moment up) a
+    Due = DueToEnd (Tick moment reach) a
 
     due_only : (act : Act) → In act late → Due act
     due_only act is_in =

@@ -2,6 +2,7 @@
 use Rattle.std.proofs.Common.{◌≡◌, ℕ, Bool, true, false, List, [], ◌∷◌, length, Option, Some, None, refl, sym, ap, subst, ◌∙◌, inl, inr, arith}
 use Rattle.std.specs.Prelude.{◌&&◌, is_some, if◌then◌else◌}
 use Rattle.std.proofs.lemmas.Bool.{and_from, and_parts, true≢false}
+use Rattle.mc_model.specs.node.Reach.{Reach, of_all}
 use Rattle.mc_model.specs.message.Submission.{Submission}
 use Rattle.mc_model.specs.message.Decree.{Decree}
 use Rattle.mc_model.specs.message.Chain.{taken_in}
@@ -103,8 +104,8 @@ module _ (setup : Setup) (k : Kept) (s : Node) (stands : Stands setup k s) (work
             closed = inl (λ i. (sym at i, outcome));
           }
 
-      abbrev none_up : List ℕ → Bool
-      none_up account = false
+      abbrev none_up : Reach
+      none_up = of_all (λ account. false)
 
       is_start : IsDueStart setup s1 slot.id (Due slot.id) start
       is_start =

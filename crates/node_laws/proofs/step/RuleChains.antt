@@ -1,5 +1,6 @@
 -- The chain of a rule's round is the node's own, at a place beyond what it knows.
 use Rattle.std.proofs.Common.{◌≡◌, ◌⊎◌, ℕ, pred, ◌<◌, ◌≤◌, Bool, List, ◌∷◌, length, Option, refl, sym, ap, subst, ◌∙◌, inl, inr, arith}
+use Rattle.mc_model.specs.node.Reach.{Reach}
 use Rattle.mc_model.specs.message.Submission.{Submission}
 use Rattle.mc_model.specs.message.Decree.{Attempt, Author, Decree, Deleted, Delivered, Expired, Failed, Fate, Told, Kind, Rejected, Taken, Undeliverable}
 use Rattle.mc_model.specs.message.Neighbours.{MayFollow}
@@ -36,19 +37,19 @@ pub record GoesOn (nodes node : ℕ) (a : Actor) (id place : ℕ) (chain : List 
   pub kind : Kind
   pub further : GoesFurther nodes node a id place chain kind
 
-pub goes_on : (nodes node : ℕ) (a : Actor) (records : Records) (up : List ℕ → Bool) (id : ℕ) (rule : Rule) (place : ℕ) (chain : List Decree) →
+pub goes_on : (nodes node : ℕ) (a : Actor) (records : Records) (reach : Reach) (id : ℕ) (rule : Rule) (place : ℕ) (chain : List Decree) →
     3 ≤ order_of rule →
-    FitsRule nodes node a records up id place chain rule → GoesOn nodes node a id place chain
-goes_on nodes node a records up id Take place chain late fits = absurd (omega arith)
-goes_on nodes node a records up id Follow place chain late fits = absurd (omega arith)
-goes_on nodes node a records up id Close place chain late fits = record { kind = _; further = fits.further }
-goes_on nodes node a records up id Lose place chain late fits = record { kind = _; further = fits.further }
-goes_on nodes node a records up id GiveUp place chain late fits = record { kind = _; further = fits.further }
-goes_on nodes node a records up id Delete place chain late fits = record { kind = _; further = fits.further }
-goes_on nodes node a records up id Expire place chain late fits = record { kind = _; further = fits.further }
-goes_on nodes node a records up id Undeliver place chain late fits = record { kind = _; further = fits.due.further }
-goes_on nodes node a records up id Try place chain late fits = record { kind = _; further = fits.due.further }
-goes_on nodes node a records up id Announce place chain late fits = record { kind = _; further = fits.further }
+    FitsRule nodes node a records reach id place chain rule → GoesOn nodes node a id place chain
+goes_on nodes node a records reach id Take place chain late fits = absurd (omega arith)
+goes_on nodes node a records reach id Follow place chain late fits = absurd (omega arith)
+goes_on nodes node a records reach id Close place chain late fits = record { kind = _; further = fits.further }
+goes_on nodes node a records reach id Lose place chain late fits = record { kind = _; further = fits.further }
+goes_on nodes node a records reach id GiveUp place chain late fits = record { kind = _; further = fits.further }
+goes_on nodes node a records reach id Delete place chain late fits = record { kind = _; further = fits.further }
+goes_on nodes node a records reach id Expire place chain late fits = record { kind = _; further = fits.further }
+goes_on nodes node a records reach id Undeliver place chain late fits = record { kind = _; further = fits.due.further }
+goes_on nodes node a records reach id Try place chain late fits = record { kind = _; further = fits.due.further }
+goes_on nodes node a records reach id Announce place chain late fits = record { kind = _; further = fits.further }
 
 -- ---- what may follow an attempt
 
@@ -218,7 +219,7 @@ told_error Told = tt
 
 -- ---- the next chain
 
-module _ (nodes node : ℕ) (a : Actor) (coherent : IsCoherent node a) (records : Records) (up : List ℕ → Bool) (id : ℕ) where
+module _ (nodes node : ℕ) (a : Actor) (coherent : IsCoherent node a) (records : Records) (reach : Reach) (id : ℕ) where
   -- the actor once an attempt is given up, by this rule alone
   abbrev pub after_rule : Rule → ℕ → Actor
   after_rule GiveUp place = record a { closed = (slot_at id (pred place), Unanswered no_session_error) ∷ a.closed }
@@ -251,7 +252,7 @@ module _ (nodes node : ℕ) (a : Actor) (coherent : IsCoherent node a) (records 
       record { node = node; incarnation = a.incarnation } ≡ newest.author
   own_author newest own now = λ i. record { node = sym own.1 i; incarnation = sym now i }
 
-  pub rule_next : (rule : Rule) (place : ℕ) (chain : List Decree) → 3 ≤ order_of rule → FitsRule nodes node a records up id place chain rule →
+  pub rule_next : (rule : Rule) (place : ℕ) (chain : List Decree) → 3 ≤ order_of rule → FitsRule nodes node a records reach id place chain rule →
       Next (after_rule rule place) chain
   rule_next Take place chain late fits = absurd (omega arith)
   rule_next Follow place chain late fits = absurd (omega arith)
@@ -373,10 +374,10 @@ module _ (nodes node : ℕ) (a : Actor) (coherent : IsCoherent node a) (records 
     pub chain_is : chain ≡ next ∷ newest ∷ older
     pub known : Knows nodes a.received id (newest ∷ older)
 
-  pub rule_place : (rule : Rule) (place : ℕ) (chain : List Decree) → 3 ≤ order_of rule → FitsRule nodes node a records up id place chain rule →
+  pub rule_place : (rule : Rule) (place : ℕ) (chain : List Decree) → 3 ≤ order_of rule → FitsRule nodes node a records reach id place chain rule →
       IsBehindKnown place chain
   rule_place rule place chain late fits =
-      let it = goes_on nodes node a records up id rule place chain late fits in
+      let it = goes_on nodes node a records reach id rule place chain late fits in
       let g = it.further in
       let permitted = next_permitted (after_rule rule place) (received_still rule place) chain (rule_next rule place chain late fits) in
       let length_most = most_decrees id chain permitted in
@@ -398,11 +399,11 @@ module _ (nodes node : ℕ) (a : Actor) (coherent : IsCoherent node a) (records 
 
   -- a rule behind what is known has one place
   pub one_place : (rule other : Rule) (place at : ℕ) (chain of : List Decree) → 3 ≤ order_of rule → 3 ≤ order_of other →
-      FitsRule nodes node a records up id place chain rule →
-      FitsRule nodes node a records up id at of other → at ≡ place
+      FitsRule nodes node a records reach id place chain rule →
+      FitsRule nodes node a records reach id at of other → at ≡ place
   one_place rule other place at chain of late later fits fits_other =
-      let one = (goes_on nodes node a records up id rule place chain late fits).further in
-      let second = (goes_on nodes node a records up id other at of later fits_other).further in
+      let one = (goes_on nodes node a records reach id rule place chain late fits).further in
+      let second = (goes_on nodes node a records reach id other at of later fits_other).further in
       let same : second.newest ∷ second.older ≡ one.newest ∷ one.older =
       knows_one nodes a.received id (second.newest ∷ second.older) (one.newest ∷ one.older) second.known one.known in
       second.behind ∙ ap length same ∙ sym one.behind

@@ -3,6 +3,7 @@ use Rattle.std.proofs.Common.{◌≡◌, ◌⊎◌, ℕ, suc, pred, ◌<◌, ◌
 use Rattle.std.proofs.Common.{◌∙◌, inl, inr, arith}
 use Rattle.std.specs.Prelude.{if◌then◌else◌}
 use Rattle.std.proofs.lemmas.Bool.{cases_lt}
+use Rattle.mc_model.specs.node.Reach.{Reach}
 use Rattle.mc_model.specs.message.Decree.{Decree}
 use Rattle.mc_model.specs.synod.Acceptor.{Records, SlotRecord}
 use Rattle.mc_model.specs.synod.Lists.{In}
@@ -64,11 +65,11 @@ module _ (setup : Setup) (s : Node) where
   }
 
   -- a round is due by the first rule that fits, and so is the end of an attempt
-  abbrev pub Starts : (List ℕ → Bool) → ℕ → ℕ → List Decree → Type 0
-  Starts up id place chain = (rule : Rule) × IsFirstRule setup.nodes setup.node s.actor s.records up id place chain rule
+  abbrev pub Starts : Reach → ℕ → ℕ → List Decree → Type 0
+  Starts reach id place chain = (rule : Rule) × IsFirstRule setup.nodes setup.node s.actor s.records reach id place chain rule
 
-  abbrev pub GivesUp : (List ℕ → Bool) → Slot → Type 0
-  GivesUp up slot = (chain : List Decree) × IsFirstRule setup.nodes setup.node s.actor s.records up slot.id (suc slot.place) chain GiveUp
+  abbrev pub GivesUp : Reach → Slot → Type 0
+  GivesUp reach slot = (chain : List Decree) × IsFirstRule setup.nodes setup.node s.actor s.records reach slot.id (suc slot.place) chain GiveUp
 
   -- ---- the first rule has one place
 
@@ -79,33 +80,33 @@ module _ (setup : Setup) (s : Node) where
       let above = other.highest.place_most place one.vote one.highest.shown in
       omega arith
 
-  module _ (coherent : IsCoherent setup.node s.actor) (up : List ℕ → Bool) (id : ℕ) where
+  module _ (coherent : IsCoherent setup.node s.actor) (reach : Reach) (id : ℕ) where
     abbrev Fits : Rule → ℕ → List Decree → Type 0
-    Fits rule place chain = FitsRule setup.nodes setup.node s.actor s.records up id place chain rule
+    Fits rule place chain = FitsRule setup.nodes setup.node s.actor s.records reach id place chain rule
 
     rule_once : (rule : Rule) (place at : ℕ) (chain of : List Decree) → Fits rule place chain → Fits rule at of → at ≡ place
     rule_once Take place at chain of one other = other.0 ∙ sym one.0
     rule_once Follow place at chain of one other = follows_once id place at chain of one other
     rule_once Close place at chain of one other =
-        one_place setup.nodes setup.node s.actor coherent s.records up id Close Close place at chain of (omega arith) (omega arith) one other
+        one_place setup.nodes setup.node s.actor coherent s.records reach id Close Close place at chain of (omega arith) (omega arith) one other
     rule_once Lose place at chain of one other =
-        one_place setup.nodes setup.node s.actor coherent s.records up id Lose Lose place at chain of (omega arith) (omega arith) one other
+        one_place setup.nodes setup.node s.actor coherent s.records reach id Lose Lose place at chain of (omega arith) (omega arith) one other
     rule_once GiveUp place at chain of one other =
-        one_place setup.nodes setup.node s.actor coherent s.records up id GiveUp GiveUp place at chain of (omega arith) (omega arith) one other
+        one_place setup.nodes setup.node s.actor coherent s.records reach id GiveUp GiveUp place at chain of (omega arith) (omega arith) one other
     rule_once Delete place at chain of one other =
-        one_place setup.nodes setup.node s.actor coherent s.records up id Delete Delete place at chain of (omega arith) (omega arith) one other
+        one_place setup.nodes setup.node s.actor coherent s.records reach id Delete Delete place at chain of (omega arith) (omega arith) one other
     rule_once Expire place at chain of one other =
-        one_place setup.nodes setup.node s.actor coherent s.records up id Expire Expire place at chain of (omega arith) (omega arith) one other
+        one_place setup.nodes setup.node s.actor coherent s.records reach id Expire Expire place at chain of (omega arith) (omega arith) one other
     rule_once Undeliver place at chain of one other =
-        one_place setup.nodes setup.node s.actor coherent s.records up id Undeliver Undeliver place at chain of (omega arith) (omega arith) one other
+        one_place setup.nodes setup.node s.actor coherent s.records reach id Undeliver Undeliver place at chain of (omega arith) (omega arith) one other
     rule_once Try place at chain of one other =
-        one_place setup.nodes setup.node s.actor coherent s.records up id Try Try place at chain of (omega arith) (omega arith) one other
+        one_place setup.nodes setup.node s.actor coherent s.records reach id Try Try place at chain of (omega arith) (omega arith) one other
     rule_once Announce place at chain of one other =
-        one_place setup.nodes setup.node s.actor coherent s.records up id Announce Announce place at chain of (omega arith) (omega arith) one other
+        one_place setup.nodes setup.node s.actor coherent s.records reach id Announce Announce place at chain of (omega arith) (omega arith) one other
 
     -- of two first rules neither stands before the other
-    pub same_first : (rule other : Rule) (place at : ℕ) (chain of : List Decree) → IsFirstRule setup.nodes setup.node s.actor s.records up id place chain rule →
-        IsFirstRule setup.nodes setup.node s.actor s.records up id at of other → other ≡ rule
+    pub same_first : (rule other : Rule) (place at : ℕ) (chain of : List Decree) → IsFirstRule setup.nodes setup.node s.actor s.records reach id place chain rule →
+        IsFirstRule setup.nodes setup.node s.actor s.records reach id at of other → other ≡ rule
     same_first rule other place at chain of one second = same_rule other rule (elim (cases_lt (order_of rule) (order_of other)) [
       | inl before ↦ absurd (second.first rule place chain before one.fits)
       | inr from ↦ elim (cases_lt (order_of other) (order_of rule)) [
@@ -114,8 +115,8 @@ module _ (setup : Setup) (s : Node) where
       ]
     ])
 
-    pub first_once : (rule other : Rule) (place at : ℕ) (chain of : List Decree) → IsFirstRule setup.nodes setup.node s.actor s.records up id place chain rule →
-        IsFirstRule setup.nodes setup.node s.actor s.records up id at of other → at ≡ place
+    pub first_once : (rule other : Rule) (place at : ℕ) (chain of : List Decree) → IsFirstRule setup.nodes setup.node s.actor s.records reach id place chain rule →
+        IsFirstRule setup.nodes setup.node s.actor s.records reach id at of other → at ≡ place
     first_once rule other place at chain of one second =
         rule_once rule place at chain of one.fits (subst (λ (r : Rule). Fits r at of) (same_first rule other place at chain of one second) second.fits)
 
@@ -179,7 +180,7 @@ module _ (setup : Setup) (s : Node) where
   given_slots GiveUp id place = slot_at id (pred place) ∷ []
   given_slots rule id place = []
 
-  module _ (coherent : IsCoherent setup.node s.actor) (up : List ℕ → Bool) (id : ℕ) where
+  module _ (coherent : IsCoherent setup.node s.actor) (reach : Reach) (id : ℕ) where
     ground_here : (slots : List Slot) (offers : List Offer) → IsGround setup.nodes id s.actor (later slots offers).actor
     ground_here slots offers = record {
       incarnation = refl;
@@ -191,7 +192,7 @@ module _ (setup : Setup) (s : Node) where
     }
 
     abbrev After : Rule → ℕ → Actor
-    After rule place = after_rule setup.nodes setup.node s.actor coherent s.records up id rule place
+    After rule place = after_rule setup.nodes setup.node s.actor coherent s.records reach id rule place
 
     ground_given : (place : ℕ) (slots : List Slot) (offers : List Offer) →
         IsGround setup.nodes id (After GiveUp place) (later (slot_at id (pred place) ∷ slots) offers).actor
@@ -245,7 +246,7 @@ module _ (setup : Setup) (s : Node) where
           (agrees.placed (slot_at id place) vote (ap (λ (r : SlotRecord). r.vote) (agrees.records (slot_at id place)) ∙ voted)).1
 
       abbrev DueTo : ℕ → List Decree → Type 0
-      DueTo place chain = Starts up id place chain
+      DueTo place chain = Starts reach id place chain
 
       abbrev Given : Rule → ℕ → Node
       Given rule place = later (given_slots rule id place ++ slots) offers
@@ -259,11 +260,11 @@ module _ (setup : Setup) (s : Node) where
             ((slot_at id place ≡ slot_of id chain) ×
             IsOwn (IsLearned setup.nodes (Given rule place).actor.received) setup.node (Given rule place).actor id chain)
 
-      behind_ready : (rule : Rule) (place : ℕ) (chain : List Decree) → 3 ≤ order_of rule → Fits coherent up id rule place chain → IsReady rule place chain
+      behind_ready : (rule : Rule) (place : ℕ) (chain : List Decree) → 3 ≤ order_of rule → Fits coherent reach id rule place chain → IsReady rule place chain
       behind_ready rule place chain late fits =
-          let at = rule_place setup.nodes setup.node s.actor coherent s.records up id rule place chain late fits in
-          let next = rule_next setup.nodes setup.node s.actor coherent s.records up id rule place chain late fits in
-          let still = received_still setup.nodes setup.node s.actor coherent s.records up id rule place in
+          let at = rule_place setup.nodes setup.node s.actor coherent s.records reach id rule place chain late fits in
+          let next = rule_next setup.nodes setup.node s.actor coherent s.records reach id rule place chain late fits in
+          let still = received_still setup.nodes setup.node s.actor coherent s.records reach id rule place in
           let own : IsOwn (IsLearned setup.nodes (After rule place).received) setup.node (After rule place) id chain = inr next in
           record {
             within = at.within;
@@ -273,7 +274,7 @@ module _ (setup : Setup) (s : Node) where
                 inr (at.slot_is, own_later setup.nodes setup.node id (After rule place) (Given rule place).actor (ground_of rule place slots offers) chain own);
           }
 
-      ready : IsQuiet setup.nodes setup.node s.actor → (rule : Rule) (place : ℕ) (chain : List Decree) → Fits coherent up id rule place chain →
+      ready : IsQuiet setup.nodes setup.node s.actor → (rule : Rule) (place : ℕ) (chain : List Decree) → Fits coherent reach id rule place chain →
           IsReady rule place chain
       ready quiet Take place chain fits = record {
         within = let first = fits.0 in omega arith;
@@ -302,13 +303,13 @@ module _ (setup : Setup) (s : Node) where
       ready quiet Announce place chain fits = behind_ready Announce place chain (omega arith) fits
 
       pub is_start : IsQuiet setup.nodes setup.node s.actor → (fit : Fitting) →
-          IsFirstRule setup.nodes setup.node s.actor s.records up id fit.start.place fit.start.chain fit.rule →
+          IsFirstRule setup.nodes setup.node s.actor s.records reach id fit.start.place fit.start.chain fit.rule →
           IsDueStart setup (Given fit.rule fit.start.place) id DueTo fit.start
       is_start quiet fit first =
           let it = ready quiet fit.rule fit.start.place fit.start.chain first.fits in
           record {
             due = (fit.rule, first);
-            only = λ place chain other. first_once coherent up id fit.rule other.0 fit.start.place place fit.start.chain chain first other.1;
+            only = λ place chain other. first_once coherent reach id fit.rule other.0 fit.start.place place fit.start.chain chain first other.1;
             within = it.within;
             ahead = it.ahead;
             behind = it.behind;
@@ -317,7 +318,7 @@ module _ (setup : Setup) (s : Node) where
 
       -- ---- an attempt is given up
 
-      give_up_agrees : (place : ℕ) (chain : List Decree) → Fits coherent up id GiveUp place chain → ((slot : Slot) → In slot slots → slot.id ≡ id → ⊥) →
+      give_up_agrees : (place : ℕ) (chain : List Decree) → Fits coherent reach id GiveUp place chain → ((slot : Slot) → In slot slots → slot.id ≡ id → ⊥) →
           Agrees setup (abandoned k id (pred place)) (later (slot_at id (pred place) ∷ slots) offers)
       give_up_agrees place chain fits apart =
           closed_agrees setup k (later slots offers) agrees (slot_at id (pred place)) (Unanswered no_session_error) (inr refl) open_yet
@@ -333,7 +334,7 @@ module _ (setup : Setup) (s : Node) where
             | inr before ↦ fits.closed other (subst (λ (x : Slot). In (x, other) s.actor.closed) slots_same before)
           ]
 
-      pub given_agrees : (rule : Rule) (place : ℕ) (chain : List Decree) → Fits coherent up id rule place chain →
+      pub given_agrees : (rule : Rule) (place : ℕ) (chain : List Decree) → Fits coherent reach id rule place chain →
           ((slot : Slot) → In slot slots → slot.id ≡ id → ⊥) →
           Agrees setup (given_up rule k id (pred place)) (Given rule place)
       given_agrees Take place chain fits apart = agrees

@@ -2,6 +2,7 @@
 use Rattle.std.proofs.Common.{◌≡◌, ◌↔◌, ℕ, ◌<◌, Bool, List, [], ◌∷◌, ◌++◌, map, None, refl, sym, ap, subst, ◌∙◌, inl, inr, arith, append_assoc}
 use Rattle.std.specs.Prelude.{reverse}
 use Rattle.std.proofs.lemmas.List.{map-append, reverse-append}
+use Rattle.mc_model.specs.node.Reach.{Reach}
 use Rattle.mc_model.specs.message.Decree.{Decree}
 use Rattle.mc_model.specs.message.Ids.{IsNode}
 use Rattle.mc_model.specs.synod.Lists.{In}
@@ -34,16 +35,16 @@ Ascending (id ∷ others) = ((other : ℕ) → In other others → id < other) �
 
 module _ (setup : Setup) (s : Node) (coherent : IsCoherent setup.node s.actor) (quiet : IsQuiet setup.nodes setup.node s.actor) (works : IsAtWork setup s)
     (mine : IsNode setup.node)
-    (none_runs : (id : ℕ) → RunsNone setup.nodes setup.node s.actor id) (up : List ℕ → Bool) where
+    (none_runs : (id : ℕ) → RunsNone setup.nodes setup.node s.actor id) (reach : Reach) where
   pub record RulesAll (ids : List ℕ) (slots : List Slot) (offers : List Offer) (new : Prepared) : Type 0 where
     pub some_slots : List Slot
     pub some_offers : List Offer
     pub agrees : Agrees setup new.kept (later setup s (some_slots ++ slots) (some_offers ++ offers))
     pub packets : new.packets ≡ reverse (map (packet_of setup s) some_offers)
-    pub gives_up : (slot : Slot) → In slot some_slots ↔ (In slot.id ids × GivesUp setup s up slot)
+    pub gives_up : (slot : Slot) → In slot some_slots ↔ (In slot.id ids × GivesUp setup s reach slot)
     pub starts : (offer : Offer) → In offer some_offers → In offer.slot.id ids
-        × (Starts setup s up offer.slot.id offer.slot.place offer.chain × MayPrepare setup.nodes setup.node s.actor s.records offer.slot offer.ballot)
-    pub all : (slot : Slot) (ballot : ℕ) (chain : List Decree) → In slot.id ids → Starts setup s up slot.id slot.place chain →
+        × (Starts setup s reach offer.slot.id offer.slot.place offer.chain × MayPrepare setup.nodes setup.node s.actor s.records offer.slot offer.ballot)
+    pub all : (slot : Slot) (ballot : ℕ) (chain : List Decree) → In slot.id ids → Starts setup s reach slot.id slot.place chain →
         MayPrepare setup.nodes setup.node s.actor s.records slot ballot → In slot.id (map id_of_offer some_offers)
     pub slots_fall : Fall (map id_of_slot some_slots)
     pub offers_fall : Fall (map id_of_offer some_offers)
@@ -61,7 +62,7 @@ module _ (setup : Setup) (s : Node) (coherent : IsCoherent setup.node s.actor) (
 
   module _ (id : ℕ) (others : List ℕ) (above : (other : ℕ) → In other others → id < other) (k : Kept) (slots : List Slot) (offers : List Offer)
       (is : IsToCome (id ∷ others) k slots offers)
-      (new : Prepared) (one : RulesOne setup s coherent quiet works mine none_runs up id k slots offers new) where
+      (new : Prepared) (one : RulesOne setup s coherent quiet works mine none_runs reach id k slots offers new) where
     to_come : IsToCome others new.kept (one.some_slots ++ slots) (one.some_offers ++ offers)
     to_come = record {
       agrees = one.agrees;
@@ -86,7 +87,7 @@ module _ (setup : Setup) (s : Node) (coherent : IsCoherent setup.node s.actor) (
       abbrev both : Prepared
       both = record { kept = last.kept; packets = new.packets ++ last.packets }
 
-      gives_up_both : (slot : Slot) → In slot (rest.some_slots ++ one.some_slots) ↔ (In slot.id (id ∷ others) × GivesUp setup s up slot)
+      gives_up_both : (slot : Slot) → In slot (rest.some_slots ++ one.some_slots) ↔ (In slot.id (id ∷ others) × GivesUp setup s reach slot)
       gives_up_both slot = (
         λ is_in. elim (in_either slot rest.some_slots one.some_slots is_in) [
           | inl further ↦ let it = (rest.gives_up slot).0 further in (inr it.0, it.1)
@@ -99,13 +100,13 @@ module _ (setup : Setup) (s : Node) (coherent : IsCoherent setup.node s.actor) (
       )
 
       starts_both : (offer : Offer) → In offer (rest.some_offers ++ one.some_offers) → In offer.slot.id (id ∷ others)
-          × (Starts setup s up offer.slot.id offer.slot.place offer.chain × MayPrepare setup.nodes setup.node s.actor s.records offer.slot offer.ballot)
+          × (Starts setup s reach offer.slot.id offer.slot.place offer.chain × MayPrepare setup.nodes setup.node s.actor s.records offer.slot offer.ballot)
       starts_both offer is_in = elim (in_either offer rest.some_offers one.some_offers is_in) [
         | inl further ↦ let it = rest.starts offer further in (inr it.0, it.1)
         | inr first ↦ let it = one.starts offer first in (inl it.0, it.1)
       ]
 
-      all_both : (slot : Slot) (ballot : ℕ) (chain : List Decree) → In slot.id (id ∷ others) → Starts setup s up slot.id slot.place chain →
+      all_both : (slot : Slot) (ballot : ℕ) (chain : List Decree) → In slot.id (id ∷ others) → Starts setup s reach slot.id slot.place chain →
           MayPrepare setup.nodes setup.node s.actor s.records slot ballot → In slot.id (map id_of_offer (rest.some_offers ++ one.some_offers))
       all_both slot ballot chain among starts may =
           subst (In slot.id) (sym (map-append id_of_offer rest.some_offers one.some_offers))
@@ -157,7 +158,7 @@ module _ (setup : Setup) (s : Node) (coherent : IsCoherent setup.node s.actor) (
       }
 
   pub rules_all : (ids : List ℕ) → Ascending ids → (k : Kept) (slots : List Slot) (offers : List Offer) → IsToCome ids k slots offers →
-      RulesAll ids slots offers (ruled_each setup up ids k)
+      RulesAll ids slots offers (ruled_each setup reach ids k)
   rules_all [] ascends k slots offers is = record {
     some_slots = [];
     some_offers = [];
@@ -170,10 +171,10 @@ module _ (setup : Setup) (s : Node) (coherent : IsCoherent setup.node s.actor) (
     offers_fall = tt;
   }
   rules_all (id ∷ others) ascends k slots offers is =
-      let new : Prepared = ruled setup k id (first_rule setup k up id) in
-      let one : RulesOne setup s coherent quiet works mine none_runs up id k slots offers new =
-      rules_one setup s coherent quiet works mine none_runs up id k slots offers is.agrees (is.each id (inl refl)) (is.free id (inl refl))
+      let new : Prepared = ruled setup k id (first_rule setup k reach id) in
+      let one : RulesOne setup s coherent quiet works mine none_runs reach id k slots offers new =
+      rules_one setup s coherent quiet works mine none_runs reach id k slots offers is.agrees (is.each id (inl refl)) (is.free id (inl refl))
       (λ slot among same. is.apart_slots slot among (inl same))
       (λ offer among same. is.apart offer among (inl same)) in
-      joined id others ascends.0 k slots offers is new one (ruled_each setup up others new.kept)
+      joined id others ascends.0 k slots offers is new one (ruled_each setup reach others new.kept)
       (rules_all others ascends.1 new.kept (one.some_slots ++ slots) (one.some_offers ++ offers) (to_come id others ascends.0 k slots offers is new one))

@@ -1,6 +1,7 @@
 -- What a tick does of one message.
 use Rattle.std.proofs.Common.{◌≡◌, ◌↔◌, ℕ, suc, pred, Bool, List, [], ◌∷◌, ◌++◌, map, Option, Some, None, refl, sym, ap, subst, ◌∙◌, inl, inr, arith}
 use Rattle.std.specs.Prelude.{reverse}
+use Rattle.mc_model.specs.node.Reach.{Reach}
 use Rattle.mc_model.specs.message.Decree.{Decree}
 use Rattle.mc_model.specs.message.Ids.{IsNode}
 use Rattle.mc_model.specs.synod.Lists.{In}
@@ -50,12 +51,12 @@ use Rattle.node_laws.proofs.step.Started.{IsDueStart, IsToPrepare, StartsAs, sta
 
 module _ (setup : Setup) (s : Node) (coherent : IsCoherent setup.node s.actor) (quiet : IsQuiet setup.nodes setup.node s.actor) (works : IsAtWork setup s)
     (mine : IsNode setup.node)
-    (none_runs : (id : ℕ) → RunsNone setup.nodes setup.node s.actor id) (up : List ℕ → Bool) (id : ℕ) where
+    (none_runs : (id : ℕ) → RunsNone setup.nodes setup.node s.actor id) (reach : Reach) (id : ℕ) where
   abbrev FirstRuleAt : ℕ → ℕ → List Decree → Rule → Type 0
-  FirstRuleAt at place chain rule = IsFirstRule setup.nodes setup.node s.actor s.records up at place chain rule
+  FirstRuleAt at place chain rule = IsFirstRule setup.nodes setup.node s.actor s.records reach at place chain rule
 
   abbrev Due : ℕ → List Decree → Type 0
-  Due place chain = Starts setup s up id place chain
+  Due place chain = Starts setup s reach id place chain
 
   -- from what is kept, with these attempts given up and these rounds started of other messages
   pub record RulesOne (k : Kept) (slots : List Slot) (offers : List Offer) (new : Prepared) : Type 0 where
@@ -64,10 +65,10 @@ module _ (setup : Setup) (s : Node) (coherent : IsCoherent setup.node s.actor) (
     pub agrees : Agrees setup new.kept (later setup s (some_slots ++ slots) (some_offers ++ offers))
     pub packets : new.packets ≡ reverse (map (packet_of setup s) some_offers)
     pub beside : IsBeside k new.kept id
-    pub gives_up : (slot : Slot) → In slot some_slots ↔ ((slot.id ≡ id) × GivesUp setup s up slot)
+    pub gives_up : (slot : Slot) → In slot some_slots ↔ ((slot.id ≡ id) × GivesUp setup s reach slot)
     pub starts : (offer : Offer) → In offer some_offers → (offer.slot.id ≡ id)
-        × (Starts setup s up offer.slot.id offer.slot.place offer.chain × MayPrepare setup.nodes setup.node s.actor s.records offer.slot offer.ballot)
-    pub all : (slot : Slot) (ballot : ℕ) (chain : List Decree) → slot.id ≡ id → Starts setup s up slot.id slot.place chain →
+        × (Starts setup s reach offer.slot.id offer.slot.place offer.chain × MayPrepare setup.nodes setup.node s.actor s.records offer.slot offer.ballot)
+    pub all : (slot : Slot) (ballot : ℕ) (chain : List Decree) → slot.id ≡ id → Starts setup s reach slot.id slot.place chain →
         MayPrepare setup.nodes setup.node s.actor s.records slot ballot → In slot.id (map id_of_offer some_offers)
     pub slots_fall : Fall (map (λ slot. slot.id) some_slots)
     pub offers_fall : Fall (map id_of_offer some_offers)
@@ -75,7 +76,7 @@ module _ (setup : Setup) (s : Node) (coherent : IsCoherent setup.node s.actor) (
   -- ---- the attempt that is given up
 
   abbrev IsGiven : Slot → Type 0
-  IsGiven slot = (slot.id ≡ id) × GivesUp setup s up slot
+  IsGiven slot = (slot.id ≡ id) × GivesUp setup s reach slot
 
   first_here : (slot : Slot) → slot.id ≡ id → (chain : List Decree) → FirstRuleAt slot.id (suc slot.place) chain GiveUp →
       FirstRuleAt id (suc slot.place) chain GiveUp
@@ -83,7 +84,7 @@ module _ (setup : Setup) (s : Node) (coherent : IsCoherent setup.node s.actor) (
 
   by_another : (rule : Rule) (place : ℕ) (chain : List Decree) → FirstRuleAt id place chain rule → (GiveUp ≡ rule → ⊥) → (slot : Slot) → IsGiven slot → ⊥
   by_another rule place chain first other slot given =
-      other (same_first setup s coherent up id rule GiveUp place (suc slot.place) chain given.1.0 first (first_here slot given.0 given.1.0 given.1.1))
+      other (same_first setup s coherent reach id rule GiveUp place (suc slot.place) chain given.1.0 first (first_here slot given.0 given.1.0 given.1.1))
 
   given_is : (place : ℕ) (chain : List Decree) → FirstRuleAt id place chain GiveUp → (slot : Slot) → In slot (slot_at id (pred place) ∷ []) ↔ IsGiven slot
   given_is place chain first slot = (
@@ -93,7 +94,7 @@ module _ (setup : Setup) (s : Node) (coherent : IsCoherent setup.node s.actor) (
     ],
     λ given.
         let places : suc slot.place ≡ place =
-        first_once setup s coherent up id GiveUp GiveUp place (suc slot.place) chain given.1.0 first (first_here slot given.0 given.1.0 given.1.1) in
+        first_once setup s coherent reach id GiveUp GiveUp place (suc slot.place) chain given.1.0 first (first_here slot given.0 given.1.0 given.1.1) in
         let place_here : slot.place ≡ pred place = omega arith in
         inl (λ i. record { id = given.0 i; place = place_here i }),
   )
@@ -132,7 +133,7 @@ module _ (setup : Setup) (s : Node) (coherent : IsCoherent setup.node s.actor) (
       (apart : (offer : Offer) → In offer offers → offer.slot.id ≡ id → ⊥) where
     -- ---- no rule fits
 
-    one_none : first_rule setup k up id ≡ None → RulesOne k slots offers (started setup k id None)
+    one_none : first_rule setup k reach id ≡ None → RulesOne k slots offers (started setup k id None)
     one_none is = record {
       some_slots = [];
       some_offers = [];
@@ -141,12 +142,12 @@ module _ (setup : Setup) (s : Node) (coherent : IsCoherent setup.node s.actor) (
       beside = beside_same k id;
       gives_up = λ slot. (
         (λ none. absurd none),
-        λ given. absurd (none_fits setup s.actor s.records k up id on is GiveUp (suc slot.place) given.1.0 (first_here slot given.0 given.1.0 given.1.1).fits),
+        λ given. absurd (none_fits setup s.actor s.records k reach id on is GiveUp (suc slot.place) given.1.0 (first_here slot given.0 given.1.0 given.1.1).fits),
       );
       starts = λ offer none. absurd none;
       all = λ slot ballot chain about starts may.
           let first = subst (λ (i : ℕ). FirstRuleAt i slot.place chain starts.0) about starts.1 in
-          none_fits setup s.actor s.records k up id on is starts.0 slot.place chain first.fits;
+          none_fits setup s.actor s.records k reach id on is starts.0 slot.place chain first.fits;
       slots_fall = tt;
       offers_fall = tt;
     }
@@ -161,10 +162,10 @@ module _ (setup : Setup) (s : Node) (coherent : IsCoherent setup.node s.actor) (
       middle = given_up fit.rule k id (pred fit.start.place)
 
       middle_agrees : Agrees setup middle given
-      middle_agrees = given_agrees setup s coherent up id k slots offers agrees fit.rule fit.start.place fit.start.chain first.fits apart_slots
+      middle_agrees = given_agrees setup s coherent reach id k slots offers agrees fit.rule fit.start.place fit.start.chain first.fits apart_slots
 
       start : IsDueStart setup given id Due fit.start
-      start = is_start setup s coherent up id k slots offers agrees quiet fit first
+      start = is_start setup s coherent reach id k slots offers agrees quiet fit first
 
       begun : StartsAs setup middle given id Due (started setup middle id (Some fit.start))
       begun = started_as setup middle given middle_agrees mine (record { least = works.least; most = works.most; up = works.up }) id Due (Some fit.start) start
@@ -203,7 +204,7 @@ module _ (setup : Setup) (s : Node) (coherent : IsCoherent setup.node s.actor) (
             let due = only (prepare_of offer) (subst (λ (acts : List Act). In (prepare_of offer) acts) (sym are) (mapped_in prepare_of some offer among)) in (
               due.0,
               (
-                subst (λ (i : ℕ). Starts setup s up i offer.slot.place offer.chain) (sym due.0) due.1.0,
+                subst (λ (i : ℕ). Starts setup s reach i offer.slot.place offer.chain) (sym due.0) due.1.0,
                 may_before setup s (given_slots setup s fit.rule id fit.start.place ++ slots) offers id apart
                     (none_runs id) offer.slot offer.ballot due.0 due.1.1,
               ),
@@ -212,7 +213,7 @@ module _ (setup : Setup) (s : Node) (coherent : IsCoherent setup.node s.actor) (
             let due : ToPrepare (Prepares slot ballot chain) = (
               about,
               (
-                subst (λ (i : ℕ). Starts setup s up i slot.place chain) about starts,
+                subst (λ (i : ℕ). Starts setup s reach i slot.place chain) about starts,
                 may_later setup s (given_slots setup s fit.rule id fit.start.place ++ slots) offers id apart runs_none slot ballot about may,
               ),
             ) in
@@ -228,9 +229,9 @@ module _ (setup : Setup) (s : Node) (coherent : IsCoherent setup.node s.actor) (
           (started_beside setup middle id (Some fit.start))
           begun.acts begun.due.only begun.due.all begun.due.order begun.agrees begun.packets starts.offers starts.are
 
-    pub rules_one : RulesOne k slots offers (ruled setup k id (first_rule setup k up id))
-    rules_one = by_rule (first_rule setup k up id) refl
+    pub rules_one : RulesOne k slots offers (ruled setup k id (first_rule setup k reach id))
+    rules_one = by_rule (first_rule setup k reach id) refl
       where
-        by_rule : (found : Option Fitting) → first_rule setup k up id ≡ found → RulesOne k slots offers (ruled setup k id found)
+        by_rule : (found : Option Fitting) → first_rule setup k reach id ≡ found → RulesOne k slots offers (ruled setup k id found)
         by_rule None is = one_none is
-        by_rule (Some fit) is = one_some fit (is_first setup s.actor s.records k up id on fit is)
+        by_rule (Some fit) is = one_some fit (is_first setup s.actor s.records k reach id on fit is)

@@ -1,5 +1,6 @@
 -- The acts of a tick: what they lead to, and that each may be done where it stands.
 use Rattle.std.proofs.Common.{◌≡◌, ℕ, ◌+◌, ◌<◌, Bool, List, [], ◌∷◌, length, map, refl, sym, ap, subst, ◌∙◌, inl, inr, arith}
+use Rattle.mc_model.specs.node.Reach.{Reach}
 use Rattle.mc_model.specs.message.Ids.{IsNode}
 use Rattle.mc_model.specs.synod.Acceptor.{Records}
 use Rattle.mc_model.specs.synod.Ballot.{incarnation_in, proposer_of}
@@ -68,8 +69,8 @@ mapped [] slot none = none
 mapped (first ∷ slots) slot (inl same) = inl (ap id_of_slot same)
 mapped (first ∷ slots) slot (inr later) = inr (mapped slots slot later)
 
-module _ (setup : Setup) (s : Node) (works : IsAtWork setup s) (up : List ℕ → Bool) where
-  may_give_up : (slot : Slot) (older : List Slot) → GivesUp setup s up slot → ((other : Slot) → In other older → other.id < slot.id) →
+module _ (setup : Setup) (s : Node) (works : IsAtWork setup s) (reach : Reach) where
+  may_give_up : (slot : Slot) (older : List Slot) → GivesUp setup s reach slot → ((other : Slot) → In other older → other.id < slot.id) →
       MayGrant setup.nodes setup.node (later setup s older []).actor slot
   may_give_up slot older gives below =
       let fits = gives.1.fits in
@@ -97,7 +98,7 @@ module _ (setup : Setup) (s : Node) (works : IsAtWork setup s) (up : List ℕ �
         ];
       }
 
-  pub run_abandons : (slots : List Slot) → Fall (map id_of_slot slots) → ((slot : Slot) → In slot slots → GivesUp setup s up slot) →
+  pub run_abandons : (slots : List Slot) → Fall (map id_of_slot slots) → ((slot : Slot) → In slot slots → GivesUp setup s reach slot) →
       IsRunAlone setup.nodes setup.node s (map Abandons slots)
   run_abandons [] falls gives = tt
   run_abandons (slot ∷ slots) falls gives = (

@@ -10,6 +10,7 @@ use Rattle.std.specs.BTreeSet.{insert_key}
 use Rattle.std.specs.List.{AllByRecursion}
 use Rattle.std.specs.List.Sorted.{IsStrictlySortedBy}
 use Rattle.std.proofs.lemmas.Bool.Decides.{nat_tests}
+use Rattle.mc_model.specs.node.Reach.{Reach}
 use Rattle.mc_model.specs.message.Decree.{Decree}
 use Rattle.mc_model.specs.synod.Acceptor.{SlotRecord}
 use Rattle.mc_model.specs.synod.Lists.{In}
@@ -154,20 +155,20 @@ module _ (setup : Setup) (k : Kept) (s : Node) (agrees : Agrees setup k s) where
   shown_in id place vote (inl told) = subst (λ (i : ℕ). In i (ids_of k)) told.about (waits_in told.waiting told.waits)
   shown_in id place vote (inr voted) = voted_in id place vote voted
 
-  behind_in : (up : List ℕ → Bool) (id : ℕ) (rule : Rule) (place : ℕ) (chain : List Decree) → 3 ≤ order_of rule →
-      FitsRule setup.nodes setup.node s.actor s.records up id place chain rule → In id (ids_of k)
-  behind_in up id rule place chain late fits =
-      let it = goes_on setup.nodes setup.node s.actor s.records up id rule place chain late fits in known_in id _ it.further.known
+  behind_in : (reach : Reach) (id : ℕ) (rule : Rule) (place : ℕ) (chain : List Decree) → 3 ≤ order_of rule →
+      FitsRule setup.nodes setup.node s.actor s.records reach id place chain rule → In id (ids_of k)
+  behind_in reach id rule place chain late fits =
+      let it = goes_on setup.nodes setup.node s.actor s.records reach id rule place chain late fits in known_in id _ it.further.known
 
-  pub fits_in : (up : List ℕ → Bool) (id : ℕ) (rule : Rule) (place : ℕ) (chain : List Decree) →
-      FitsRule setup.nodes setup.node s.actor s.records up id place chain rule → In id (ids_of k)
-  fits_in up id Take place chain fits = subst (λ (i : ℕ). In i (ids_of k)) (ap id_in fits.1.submits) (waits_in fits.1.waiting fits.1.waits)
-  fits_in up id Follow place chain fits = shown_in id place fits.vote fits.highest.shown
-  fits_in up id Close place chain fits = behind_in up id Close place chain (omega arith) fits
-  fits_in up id Lose place chain fits = behind_in up id Lose place chain (omega arith) fits
-  fits_in up id GiveUp place chain fits = behind_in up id GiveUp place chain (omega arith) fits
-  fits_in up id Delete place chain fits = behind_in up id Delete place chain (omega arith) fits
-  fits_in up id Expire place chain fits = behind_in up id Expire place chain (omega arith) fits
-  fits_in up id Undeliver place chain fits = behind_in up id Undeliver place chain (omega arith) fits
-  fits_in up id Try place chain fits = behind_in up id Try place chain (omega arith) fits
-  fits_in up id Announce place chain fits = behind_in up id Announce place chain (omega arith) fits
+  pub fits_in : (reach : Reach) (id : ℕ) (rule : Rule) (place : ℕ) (chain : List Decree) →
+      FitsRule setup.nodes setup.node s.actor s.records reach id place chain rule → In id (ids_of k)
+  fits_in reach id Take place chain fits = subst (λ (i : ℕ). In i (ids_of k)) (ap id_in fits.1.submits) (waits_in fits.1.waiting fits.1.waits)
+  fits_in reach id Follow place chain fits = shown_in id place fits.vote fits.highest.shown
+  fits_in reach id Close place chain fits = behind_in reach id Close place chain (omega arith) fits
+  fits_in reach id Lose place chain fits = behind_in reach id Lose place chain (omega arith) fits
+  fits_in reach id GiveUp place chain fits = behind_in reach id GiveUp place chain (omega arith) fits
+  fits_in reach id Delete place chain fits = behind_in reach id Delete place chain (omega arith) fits
+  fits_in reach id Expire place chain fits = behind_in reach id Expire place chain (omega arith) fits
+  fits_in reach id Undeliver place chain fits = behind_in reach id Undeliver place chain (omega arith) fits
+  fits_in reach id Try place chain fits = behind_in reach id Try place chain (omega arith) fits
+  fits_in reach id Announce place chain fits = behind_in reach id Announce place chain (omega arith) fits

@@ -2,6 +2,7 @@
 use Rattle.std.proofs.Common.{◌≡◌, ℕ, suc, max, Bool, List, [], ◌∷◌, ◌++◌, map, None, refl, sym, ap, subst, ◌∙◌, append-nil, append_assoc}
 use Rattle.std.specs.Prelude.{filter, reverse, if◌then◌else◌}
 use Rattle.std.proofs.lemmas.List.{reverse-append}
+use Rattle.mc_model.specs.node.Reach.{Reach}
 use Rattle.mc_model.specs.message.Ids.{IsNode}
 use Rattle.mc_model.specs.synod.Lists.{In}
 use Rattle.mc_model.specs.synod.Packet.{Packet, Slot}
@@ -40,7 +41,7 @@ use Rattle.mc_laws.proofs.story.FirstStep.{none_due, none_due_once}
 use Rattle.node_laws.proofs.invariant.Ticked.{after_late, agrees_then, kept_then, message_ticked, none_runs, waits_before}
 
 module _ (setup : Setup) (k : Kept) (s : Node) (stands : Stands setup k s) (works : IsAtWork setup s) (mine : IsNode setup.node) (moment : ℕ)
-    (up : List ℕ → Bool) where
+    (reach : Reach) where
   abbrev core : List Act
   core = Ticks moment ∷ []
 
@@ -81,13 +82,13 @@ module _ (setup : Setup) (k : Kept) (s : Node) (stands : Stands setup k s) (work
   abbrev Ruled : Type 0
   Ruled =
       RulesAll setup tick agrees.coherent quiet (record { least = works.least; most = works.most; up = works.up }) mine
-      (none_runs setup k s stands.agrees moment) up
-      (ids_of ticked) [] [] (ruled_each setup up (ids_of ticked) ticked)
+      (none_runs setup k s stands.agrees moment) reach
+      (ids_of ticked) [] [] (ruled_each setup reach (ids_of ticked) ticked)
 
   rules : Ruled
   rules =
       rules_all setup tick agrees.coherent quiet (record { least = works.least; most = works.most; up = works.up }) mine
-      (none_runs setup k s stands.agrees moment) up
+      (none_runs setup k s stands.agrees moment) reach
       (ids_of ticked) (ids_ascending setup ticked tick agrees) ticked [] [] (record {
         agrees = agrees;
         each = λ id among. agrees_on setup ticked tick agrees id;
@@ -150,13 +151,13 @@ module _ (setup : Setup) (k : Kept) (s : Node) (stands : Stands setup k s) (work
   runs =
       run_more setup.nodes setup.node s prepares (abandons ++ (asks ++ (late ++ core)))
       (subst (λ (x : Node). IsRunAlone setup.nodes setup.node x prepares) (sym reached_abandons_is)
-      (run_starts setup tick at_work up agrees.coherent mine slots offers (λ offer among. (rules.starts offer among).1.1)))
+      (run_starts setup tick at_work reach agrees.coherent mine slots offers (λ offer among. (rules.starts offer among).1.1)))
       (run_more setup.nodes setup.node s abandons (asks ++ (late ++ core))
       (subst (λ (x : Node). IsRunAlone setup.nodes setup.node x abandons) (sym reached_asks_is)
-      (run_abandons setup tick at_work up slots rules.slots_fall (λ slot among. ((rules.gives_up slot).0 among).1)))
+      (run_abandons setup tick at_work reach slots rules.slots_fall (λ slot among. ((rules.gives_up slot).0 among).1)))
       (run_more setup.nodes setup.node s asks (late ++ core)
       (subst (λ (x : Node). IsRunAlone setup.nodes setup.node x asks) (sym reached_late_is)
-      (asks_may setup s.actor tick.actor ticked.held agrees.waiting (ascend_from ticked.held agrees.tickets) agrees.told moment up tick refl
+      (asks_may setup s.actor tick.actor ticked.held agrees.waiting (ascend_from ticked.held agrees.tickets) agrees.told moment reach tick refl
       works.least works.most works.up))
       (run_more setup.nodes setup.node s late core
       (late_may risen k.held stands.agrees.waiting ascends setup (reached_alone setup.node s core) refl
@@ -174,38 +175,38 @@ module _ (setup : Setup) (k : Kept) (s : Node) (stands : Stands setup k s) (work
       (to_settle_back setup.nodes setup.node s.actor risen refl (λ id known is. is) (λ name known settled. settled) (λ w waits. waits) ticket due)
   settles_none act due = due
 
-  abandons_due : AreDue (DueToAbandon setup.nodes setup.node tick.actor s.records (Tick moment up)) abandons
+  abandons_due : AreDue (DueToAbandon setup.nodes setup.node tick.actor s.records (Tick moment reach)) abandons
   abandons_due = record {
     each = λ act. (only act, all act);
     order = subst Fall (sym (abandon_keys slots)) rules.slots_fall;
   }
     where
-      only : (act : Act) → In act abandons → DueToAbandon setup.nodes setup.node tick.actor s.records (Tick moment up) act
+      only : (act : Act) → In act abandons → DueToAbandon setup.nodes setup.node tick.actor s.records (Tick moment reach) act
       only act is_in =
           let it = in_mapped Abandons slots act is_in in
-          subst (DueToAbandon setup.nodes setup.node tick.actor s.records (Tick moment up)) (sym it.is) ((rules.gives_up it.from).0 it.among).1
+          subst (DueToAbandon setup.nodes setup.node tick.actor s.records (Tick moment reach)) (sym it.is) ((rules.gives_up it.from).0 it.among).1
 
-      all : (act : Act) → DueToAbandon setup.nodes setup.node tick.actor s.records (Tick moment up) act → In act abandons
+      all : (act : Act) → DueToAbandon setup.nodes setup.node tick.actor s.records (Tick moment reach) act → In act abandons
       all (Abandons slot) due =
-          mapped_in Abandons slots slot ((rules.gives_up slot).1 (fits_in setup ticked tick agrees up slot.id GiveUp (suc slot.place) due.0 due.1.fits, due))
+          mapped_in Abandons slots slot ((rules.gives_up slot).1 (fits_in setup ticked tick agrees reach slot.id GiveUp (suc slot.place) due.0 due.1.fits, due))
       all act due = absurd due
 
-  prepares_due : AreDueOnce (DueToPrepare setup.nodes setup.node s.actor tick.actor s.records (Tick moment up)) prepares
+  prepares_due : AreDueOnce (DueToPrepare setup.nodes setup.node s.actor tick.actor s.records (Tick moment reach)) prepares
   prepares_due = record {
     only = only;
     all = all;
     order = subst Fall (sym (keys_of_starts offers)) rules.offers_fall;
   }
     where
-      only : (act : Act) → In act prepares → DueToPrepare setup.nodes setup.node s.actor tick.actor s.records (Tick moment up) act
+      only : (act : Act) → In act prepares → DueToPrepare setup.nodes setup.node s.actor tick.actor s.records (Tick moment reach) act
       only act is_in =
           let it = in_mapped prepare_of offers act is_in in
-          subst (DueToPrepare setup.nodes setup.node s.actor tick.actor s.records (Tick moment up)) (sym it.is) (rules.starts it.from it.among).1
+          subst (DueToPrepare setup.nodes setup.node s.actor tick.actor s.records (Tick moment reach)) (sym it.is) (rules.starts it.from it.among).1
 
-      all : (act : Act) → DueToPrepare setup.nodes setup.node s.actor tick.actor s.records (Tick moment up) act → In (key_of act) (map key_of prepares)
+      all : (act : Act) → DueToPrepare setup.nodes setup.node s.actor tick.actor s.records (Tick moment reach) act → In (key_of act) (map key_of prepares)
       all (Prepares slot ballot chain) due =
           subst (In slot.id) (sym (keys_of_starts offers))
-          (rules.all slot ballot chain (fits_in setup ticked tick agrees up slot.id due.0.0 slot.place chain due.0.1.fits) due.0 due.1)
+          (rules.all slot ballot chain (fits_in setup ticked tick agrees reach slot.id due.0.0 slot.place chain due.0.1.fits) due.0 due.1)
       all act due = absurd due
 
   proposes_none : (act : Act) → DueToPropose setup.nodes setup.node s.actor tick.actor act → ⊥
@@ -220,7 +221,7 @@ module _ (setup : Setup) (k : Kept) (s : Node) (stands : Stands setup k s) (work
   reports_none (Reports id chain) due = due.new due.known
   reports_none act due = due
 
-  exact : IsExact setup s.actor s.records (Tick moment up) (prepares ++ (abandons ++ (asks ++ (late ++ core))))
+  exact : IsExact setup s.actor s.records (Tick moment reach) (prepares ++ (abandons ++ (asks ++ (late ++ core))))
   exact = record {
     core = core;
     settles = [];
@@ -234,12 +235,12 @@ module _ (setup : Setup) (k : Kept) (s : Node) (stands : Stands setup k s) (work
     acts_are = parts_are;
     core_is = refl;
     settled = none_due _ settles_none;
-    ended = late_due risen k.held stands.agrees.waiting ascends moment up;
-    asked = subst (λ (x : Actor). AreDue (DueToAsk setup.nodes setup.node s.actor x (Tick moment up)) asks) (sym did_parts_is)
-        (asks_due setup s.actor tick.actor ticked.held agrees.waiting (ascend_from ticked.held agrees.tickets) agrees.told moment up);
-    abandoned = subst (λ (x : Actor). AreDue (DueToAbandon setup.nodes setup.node x s.records (Tick moment up)) abandons) (sym did_parts_is) abandons_due;
+    ended = late_due risen k.held stands.agrees.waiting ascends moment reach;
+    asked = subst (λ (x : Actor). AreDue (DueToAsk setup.nodes setup.node s.actor x (Tick moment reach)) asks) (sym did_parts_is)
+        (asks_due setup s.actor tick.actor ticked.held agrees.waiting (ascend_from ticked.held agrees.tickets) agrees.told moment reach);
+    abandoned = subst (λ (x : Actor). AreDue (DueToAbandon setup.nodes setup.node x s.records (Tick moment reach)) abandons) (sym did_parts_is) abandons_due;
     prepared =
-        subst (λ (x : Actor). AreDueOnce (DueToPrepare setup.nodes setup.node s.actor x s.records (Tick moment up)) prepares) (sym did_parts_is) prepares_due;
+        subst (λ (x : Actor). AreDueOnce (DueToPrepare setup.nodes setup.node s.actor x s.records (Tick moment reach)) prepares) (sym did_parts_is) prepares_due;
     proposed = subst (λ (x : Actor). AreDueOnce (DueToPropose setup.nodes setup.node s.actor x) []) (sym did_parts_is) (none_due_once _ proposes_none);
     replied = subst (λ (x : Actor). AreDue (DueToReply setup.nodes setup.node x) []) (sym did_parts_is) (none_due _ replies_none);
     reported = none_due _ reports_none;
@@ -275,7 +276,7 @@ module _ (setup : Setup) (k : Kept) (s : Node) (stands : Stands setup k s) (work
       ∙ (λ i. packets_of_starts setup tick (did setup.node s.actor (abandons ++ (asks ++ (late ++ core))))
       (saved s.records (abandons ++ (asks ++ (late ++ core)))) offers i ++ abandons_send i)
 
-  packets_are : asked_again setup ticked ++ (ruled_each setup up (ids_of ticked) ticked).packets ≡ reverse (packets_in setup.node s.actor s.records acts)
+  packets_are : asked_again setup ticked ++ (ruled_each setup reach (ids_of ticked) ticked).packets ≡ reverse (packets_in setup.node s.actor s.records acts)
   packets_are =
       (λ i. sym (ask_packets setup ticked tick.actor agrees.incarnation (saved s.records (late ++ core)) untold) i ++ rules.packets i)
       ∙ sym (reverse-append (map (packet_of setup tick) offers) (asked_of tick.actor))
@@ -304,15 +305,15 @@ module _ (setup : Setup) (k : Kept) (s : Node) (stands : Stands setup k s) (work
 
   -- ---- the step
 
-  stands_then : Stands setup (ruled_each setup up (ids_of ticked) ticked).kept (reached_alone setup.node s acts)
-  stands_then = subst (Stands setup (ruled_each setup up (ids_of ticked) ticked).kept) (sym reached_all_is) (record {
+  stands_then : Stands setup (ruled_each setup reach (ids_of ticked) ticked).kept (reached_alone setup.node s acts)
+  stands_then = subst (Stands setup (ruled_each setup reach (ids_of ticked) ticked).kept) (sym reached_all_is) (record {
     agrees = rules.agrees;
     quiet =
         quiet_with setup.nodes setup.node tick.actor (later setup tick (slots ++ []) (offers ++ [])).actor refl (λ id known is. is)
         (λ name known settled. settled) (λ w waits. waits) quiet;
   })
 
-  on_tick_steps : StepsAs setup s (Tick moment up) (on_tick setup k moment up)
+  on_tick_steps : StepsAs setup s (Tick moment reach) (on_tick setup k moment reach)
   on_tick_steps = record {
     acts = acts;
     taken = record { run = runs; exact = exact };
@@ -327,9 +328,9 @@ module _ (setup : Setup) (k : Kept) (s : Node) (stands : Stands setup k s) (work
     };
   }
 
-  pub tick_steps : StepsAs setup s (Tick moment up) (stepped setup k (Tick moment up))
-  tick_steps = subst (StepsAs setup s (Tick moment up)) (sym is_up) on_tick_steps
+  pub tick_steps : StepsAs setup s (Tick moment reach) (stepped setup k (Tick moment reach))
+  tick_steps = subst (StepsAs setup s (Tick moment reach)) (sym is_up) on_tick_steps
     where
-      is_up : stepped setup k (Tick moment up) ≡ on_tick setup k moment up
+      is_up : stepped setup k (Tick moment reach) ≡ on_tick setup k moment reach
       is_up =
-          ap (λ (running : Bool). if running then stepped_up setup k (Tick moment up) else stepped_down setup k (Tick moment up)) (stands.agrees.up ∙ works.up)
+          ap (λ (running : Bool). if running then stepped_up setup k (Tick moment reach) else stepped_down setup k (Tick moment reach)) (stands.agrees.up ∙ works.up)

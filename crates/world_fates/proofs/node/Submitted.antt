@@ -99,7 +99,7 @@ core_begins setup a records (Arrival other) acts c ticket request among = elim (
   | inr none ↦ absurd none
 ]
 core_begins setup a records (Refusal status) acts c ticket request among = absurd (none_of_none acts c.1 ticket request among)
-core_begins setup a records (Tick moment up) acts c ticket request among = absurd (none_of_one _ acts (λ ticket request same. cc) c ticket request among)
+core_begins setup a records (Tick moment reach) acts c ticket request among = absurd (none_of_one _ acts (λ ticket request same. cc) c ticket request among)
 core_begins setup a records (Grant slot) acts c ticket request among = absurd (none_of_one _ acts (λ ticket request same. cc) c ticket request among)
 core_begins setup a records (Response slot outcome) acts c ticket request among =
     absurd (none_of_one _ acts (λ ticket request same. cc) c ticket request among)
@@ -133,16 +133,16 @@ exact_begins setup a records input acts e ticket request among =
     ]
   where
     not_ended : (input : Input) (a : Actor) (t : ℕ) (r : Request) → DueToEnd input a (Begins t r) → ⊥
-    not_ended (Tick moment up) a t r none = none
+    not_ended (Tick moment reach) a t r none = none
     not_ended input a t r none = none
 
     not_asked : (input : Input) (nodes node : ℕ) (before a : Actor) (t : ℕ) (r : Request) → DueToAsk nodes node before a input (Begins t r) → ⊥
-    not_asked (Tick moment up) nodes node before a t r none = none
+    not_asked (Tick moment reach) nodes node before a t r none = none
     not_asked input nodes node before a t r none = none
 
     not_abandoned : (input : Input) (nodes node : ℕ) (a : Actor) (records : Records) (t : ℕ) (r : Request) →
         DueToAbandon nodes node a records input (Begins t r) → ⊥
-    not_abandoned (Tick moment up) nodes node a records t r none = none
+    not_abandoned (Tick moment reach) nodes node a records t r none = none
     not_abandoned input nodes node a records t r none = none
 
 -- ---- what is taken began

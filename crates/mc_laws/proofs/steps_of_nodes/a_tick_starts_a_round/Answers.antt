@@ -1,9 +1,12 @@
-use Rattle.mc_laws.proofs.story.Ticks.{try_step, expire_step, undeliver_step, close_step, lose_step, give_up_step, announce_step}
+use Rattle.mc_laws.proofs.story.Ticks.{try_step, held_back_step, expire_step, undeliver_step, close_step, lose_step, give_up_step, announce_step}
 use Rattle.mc_laws.proofs.story.Retrying.{take_step, follow_step, delete_step}
 use Rattle.mc_laws.proofs.steps_of_nodes.a_tick_starts_a_round.Goals as goal
 
 pub returns-clause-attempt : goal.returns-clause-attempt
 returns-clause-attempt c = try_step
+
+pub returns-clause-held_back : goal.returns-clause-held_back
+returns-clause-held_back c = held_back_step
 
 pub returns-clause-expire : goal.returns-clause-expire
 returns-clause-expire c = expire_step

@@ -18,6 +18,10 @@ pub returns-clause-waits : goal.returns-clause-waits
 unfolding has_record
 returns-clause-waits c = refl
 
+pub returns-clause-held_back : goal.returns-clause-held_back
+unfolding has_record
+returns-clause-held_back c = refl
+
 pub returns-clause-again : goal.returns-clause-again
 unfolding has_record
 returns-clause-again c = refl

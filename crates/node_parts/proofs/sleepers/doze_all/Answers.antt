@@ -1,14 +1,13 @@
 use Rattle.std.proofs.Common.{◌≡◌, ◌∙◌, ℕ, suc, ◌+◌, ◌∷◌, List, Some, drop, refl, sym, ap, arith}
 use Rattle.std.proofs.Math.Seq.{drop-cons}
-use Rattle.delivery.specs.Targets.{is_up}
-use Rattle.node_parts.specs.Sleeping.{dozed, ids_of}
+use Rattle.node_parts.specs.Sleeping.{dozed, ids_of, reach_noted}
 use Rattle.node_parts.specs.Waking.{all_looked_at}
 use Rattle.node_parts.proofs.Waking.{ids_looked_at}
 use Rattle.node_parts.proofs.sleepers.doze_all.Goals as goal
 
 pub loop-id-preserved : goal.loop-id-preserved
 loop-id-preserved c =
-    let look = dozed c.args.shelf.now.entries c.args.noted.now.me (is_up c.args.noted.now.up.items) (Some c.args.clock) in
+    let look = dozed c.args.shelf.now.entries c.args.noted.now.me (reach_noted c.args.noted.now) (Some c.args.clock) in
     let before = c.loop-id.live.items in
     let ids = c.args.ids.now in
     let place = c.loop-id.id-index in

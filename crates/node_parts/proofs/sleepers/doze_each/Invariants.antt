@@ -1,8 +1,7 @@
 use Rattle.std.proofs.Common.{◌≡◌}
-use Rattle.delivery.specs.Targets.{is_up}
 use Rattle.shelf.proofs.Visited.{changed_to}
-use Rattle.node_parts.specs.Sleeping.{dozed}
+use Rattle.node_parts.specs.Sleeping.{dozed, reach_noted}
 use Rattle.node_parts.proofs.sleepers.doze_each.Given as goal
 
 abbrev pub invariant-loop-listing : goal.invariant-loop-listing
-invariant-loop-listing l = l.listing-items ≡ changed_to (dozed l.shelf.entries l.me (is_up l.up) l.clock) l.listing-index l.fn.live.items
+invariant-loop-listing l = l.listing-items ≡ changed_to (dozed l.shelf.entries l.noted.me (reach_noted l.noted) l.clock) l.listing-index l.fn.live.items

@@ -1,6 +1,6 @@
 use Rattle.std.proofs.Common.{rules, Result, ℕ, Ok, Err, sym, subst}
 use Rattle.std.proofs.lemmas.List.Sorted.{answers_always}
-use Rattle.node_parts.specs.Living.{IsPlaceOf}
+use Rattle.node_parts.specs.Rising.{IsPlaceOf}
 use Rattle.node_parts.specs.Sleeping.{ids_of}
 use Rattle.node_parts.proofs.Listings.{place_found}
 use Rattle.node_parts.proofs.Looking.{absent, until_none, until_there}

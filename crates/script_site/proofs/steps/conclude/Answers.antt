@@ -1,7 +1,7 @@
 use Rattle.std.proofs.Common.{Err, subst}
 use Rattle.world.specs.Runs.{Leads}
 use Rattle.world.specs.declared.fault.WorldFault.{WorldFault}
-use Rattle.world.specs.declared.step.Step.TheVariants as steps
+use Rattle.world.specs.Step.TheVariants as steps
 use Rattle.script_site.proofs.Concluding.{closed_goes, concluded_so}
 use Rattle.script_site.proofs.steps.conclude.Goals as goal
 

@@ -12,9 +12,9 @@ returns-in-Failed c =
     let taken = c.submission-taken.result.now in
     let range = c.seconds.ensures.range in
     let expiry = ap (λ (t : Submission). t.expiry) c.taken.view_is in
-    failed_until c.args.up c.args.chain.now.decrees newest _ taken c.attempts.result c.earlier_if-in-Failed.result c.later.result
+    failed_until c.args.begins c.args.chain.now.decrees newest _ taken c.attempts.result c.earlier_if-in-Failed.result c.later.result
     c.newest-newest.ensures (sym (ap (λ (d : Decree). d.kind) c.newest.view_is) ∙ ap kind_of c.in-Failed.is) c.submission-taken.ensures
     c.attempts.ensures.attempts
     (c.later.ensures ∙ ap (λ (d : Decree). min (d.moment + 60 * c.attempts.result) 4102444799) c.newest.view_is)
     (omega (arith, range, expiry))
-    (c.earlier_if-in-Failed.ensures ∙ ap (λ (t : Submission). if c.args.up then min t.expiry c.later.result else t.expiry) c.taken.view_is)
+    (c.earlier_if-in-Failed.ensures ∙ ap (λ (t : Submission). if c.args.begins then min t.expiry c.later.result else t.expiry) c.taken.view_is)

@@ -1,5 +1,5 @@
 use Rattle.std.proofs.Common.{◌≡◌, List, get_or, ap, ◌∙◌, arith}
-use Rattle.world.specs.declared.step.Step.{Step}
+use Rattle.world.specs.Step.{Step}
 use Rattle.world_runs.proofs.Copying.{one_copied}
 use Rattle.world_runs.proofs.running.steps_copied.Goals as goal
 

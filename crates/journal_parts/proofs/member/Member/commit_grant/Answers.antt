@@ -1,7 +1,7 @@
 use Rattle.std.proofs.Common.{◌≡◌, List, [], ◌∷◌, ◌++◌, map, sym, ap, subst, ◌∙◌}
 use Rattle.std.proofs.lemmas.List.{map-append}
 use Rattle.std.specs.Arc.{arc_value}
-use Rattle.world.specs.Runs.{node_at}
+use Rattle.node_entry.specs.Taking.{node_at}
 use Rattle.node_core.specs.Kept.{Kept as Holding}
 use Rattle.node_core.specs.Keeping.{kept_of}
 use Rattle.journal_laws.specs.Journals.{Entry}

@@ -6,7 +6,7 @@ use Rattle.journal_laws.specs.Journals.{Entry}
 use Rattle.journal_parts.specs.declared.done.Done.{Done}
 use Rattle.journal_parts.specs.declared.entry.Entry.{Entry as Written}
 use Rattle.journal_parts.specs.Entries.{IsAnew, done_of, entry_of, save_of}
-use Rattle.world.specs.declared.step.Step.TheVariants as steps
+use Rattle.node_entry.specs.declared.step.Step.TheVariants as steps
 use Rattle.journal_parts.specs.Members.{IsMember, Membered, packet_halted, posted}
 use Rattle.journal_parts.proofs.Reopening.{member_anew, names_so}
 use Rattle.journal_parts.proofs.member.Member.start_anew.Goals as goal

@@ -1,7 +1,7 @@
 use Rattle.std.proofs.Common.{◌≡◌, false, Option, Err, sym, ap, subst, ◌∙◌}
 use Rattle.std.specs.Arc.{arc_value}
 use Rattle.synod_acceptor.specs.declared.packet.Packet.{Packet}
-use Rattle.world.specs.declared.step.Step.{Step}
+use Rattle.node_entry.specs.declared.step.Step.{Step}
 use Rattle.node_laws.specs.Runs.{MayCome}
 use Rattle.node_core.specs.Input.{Input as Given}
 use Rattle.node_core.specs.Keeping.{kept_of}

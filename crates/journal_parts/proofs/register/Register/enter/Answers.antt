@@ -3,7 +3,7 @@ use Rattle.std.proofs.lemmas.List.{length-map}
 use Rattle.std.specs.Arc.{arc_value}
 use Rattle.std.specs.Vec.{vec_len}
 use Rattle.synod_acceptor.specs.Packets.{packet_of}
-use Rattle.world.specs.Runs.{node_at}
+use Rattle.node_entry.specs.Taking.{node_at}
 use Rattle.journal_laws.specs.Journals.{Entry, IsInRange, packets_sent}
 use Rattle.journal_parts.specs.declared.done.Done.{Done}
 use Rattle.journal_parts.specs.declared.noted.Noted.{Noted}

@@ -7,7 +7,7 @@ use Rattle.node_model.specs.Ticks.{ids_of, is_late, ticked}
 use Rattle.waiting_requests.specs.Queues.{timely}
 use Rattle.waiting_requests.specs.Waiting.{held_in}
 use Rattle.waiting_requests.specs.Replying.{reply_given}
-use Rattle.delivery.specs.Targets.{is_up}
+use Rattle.node_parts.specs.Reaching.{reach_of}
 use Rattle.synod_acceptor.specs.Packets.{packet_of}
 use Rattle.node_kept.specs.Idling.{NoneFits}
 use Rattle.node_kept.specs.Keeping.{kept_of}
@@ -25,7 +25,7 @@ returns-clause-step c =
     let same = c.unchanged-next.ensures in
     let packets = ap (λ v. map packet_of v.items) c.telling.ensures.packets ∙ c.in_ok-packets.ensures.packets in
     let replies = ap (λ v. map reply_given v.items) c.telling.ensures.replies ∙ c.in_ok-replies.ensures.replies in
-    ticked_at k c.args.moment c.max-clock.result (is_up c.args.up.items) turns _ clock
+    ticked_at k c.args.moment c.max-clock.result (reach_of c.args.reach) turns _ clock
     (record {
       clock_is = refl;
       serial = same.serial;
@@ -47,8 +47,7 @@ returns-clause-step c =
       granted = c.telling.ensures.granted;
       change = refl;
     })
-    (subst (λ (ups : List (List ℕ)). IsTurned k c.max-clock.result (is_up ups) (ids_of (ticked (kept_of k) c.max-clock.result)) turns)
-    c.deref.ensures.value c.in_ok-turns.ensures.turned)
+    c.in_ok-turns.ensures.turned
 
 pub returns-in_err-replies-clause-idle : goal.returns-in_err-replies-clause-idle
 returns-in_err-replies-clause-idle c idle =
@@ -64,10 +63,8 @@ returns-in_err-packets-clause-idle c idle =
     let none : list_any (is_untold k.setup.nodes) (timely c.max-clock.result (held_in k.queue)) ≡ false =
     none_passes (is_untold k.setup.nodes) (timely c.max-clock.result (held_in k.queue))
     (λ h among. idle.told h (timely_in c.max-clock.result (held_in k.queue) h among)) in
-    let fits : NoneFits k.setup (kept_of k) c.max-clock.result (is_up c.args.up.items) = subst
-    (λ (n : ℕ). NoneFits k.setup (kept_of k) n (is_up c.args.up.items)) (sym clock) idle.unruled in
-    let here : NoneFits k.setup (kept_of k) c.max-clock.result (is_up c.deref.result.now) =
-    subst (λ (ups : List (List ℕ)). NoneFits k.setup (kept_of k) c.max-clock.result (is_up ups)) (sym c.deref.ensures.value) fits in
-    let empty : c.in_ok-turns.turns.packets.items ≡ [] = (rw c.in_ok-turns.was at (c.turns.ensures.idle here)).1 in
+    let fits : NoneFits k.setup (kept_of k) c.max-clock.result (reach_of c.args.reach) = subst
+    (λ (n : ℕ). NoneFits k.setup (kept_of k) n (reach_of c.args.reach)) (sym clock) idle.unruled in
+    let empty : c.in_ok-turns.turns.packets.items ≡ [] = (rw c.in_ok-turns.was at (c.turns.ensures.idle fits)).1 in
     let ok = c.with_questions.ensures.idle none empty in
     absurd (true≢false (sym (rw c.in_err-packets.was at ok)))

@@ -1,5 +1,5 @@
 use Rattle.std.proofs.Common.{◌≡◌, Some, None, sym}
-use Rattle.delivery.specs.Targets.{is_up}
+use Rattle.node_parts.specs.Reaching.{reach_of}
 use Rattle.shelf.specs.Shelved.{value_at}
 use Rattle.node_model.specs.Ticks.{ticked}
 use Rattle.node_kept.specs.Keeping.{kept_of}
@@ -12,7 +12,7 @@ returns-in-Some-clause-turned c =
     let k = c.args.self.now in
     let m = c.in-Some.message.now in
     let found : Some m ≡ value_at k.messages.entries c.args.id = rw c.in-Some.is at c.find.ensures.value in
-    turn_found k c.args.id c.args.at.now (is_up c.args.up.now) m c.turn.result (taken_there k c.args.id m (sym found)) c.turn.ensures.same c.turn.ensures.turned
+    turn_found k c.args.id c.args.at.now (reach_of c.args.reach.now) m c.turn.result (taken_there k c.args.id m (sym found)) c.turn.ensures.same c.turn.ensures.turned
 
 pub returns-in-Some-clause-idle : goal.returns-in-Some-clause-idle
 returns-in-Some-clause-idle c none =
@@ -30,7 +30,7 @@ returns-in-None-clause-turned c =
     let fresh = c.fresh-message.ensures in
     let none : None ≡ value_at k.messages.entries c.args.id = rw c.in-None.is at c.find.ensures.value in
     let own = (rw (c.author.ensures.node, c.author.ensures.incarnation, c.nodes.ensures) at fresh.own) c.args.id c.find.ensures.named in
-    turn_found k c.args.id c.args.at.now (is_up c.args.up.now) m c.turn-in-None.result
+    turn_found k c.args.id c.args.at.now (reach_of c.args.reach.now) m c.turn-in-None.result
     (taken_fresh k c.args.id m (sym none) (fresh.message c.args.id) fresh.records own) c.turn-in-None.ensures.same c.turn-in-None.ensures.turned
 
 pub returns-in-None-clause-idle : goal.returns-in-None-clause-idle

@@ -1,7 +1,7 @@
 use Rattle.std.proofs.Common.{◌≡◌, [], length}
 use Rattle.node_model.specs.Ticks.{ids_of, ticked}
-use Rattle.delivery.specs.Targets.{is_up}
-use Rattle.node_parts.specs.Living.{AreRising}
+use Rattle.node_parts.specs.Reaching.{reach_of}
+use Rattle.node_parts.specs.Rising.{AreRising}
 use Rattle.node_kept.specs.Idling.{NoneFits}
 use Rattle.node_kept.specs.Keeping.{kept_of}
 use Rattle.node_kept.specs.Walking.{IsWalk, ids_left}
@@ -10,9 +10,9 @@ use Rattle.node_kept.proofs.kept.Kept.turns.Given as goal
 
 abbrev pub invariant-loop-id : goal.invariant-loop-id
 invariant-loop-id l = record {
-  walks : IsWalk l.self l.at (is_up l.up) l.walk;
-  turns : IsTurning l.self l.fn.clock (is_up l.up) (ids_left l.self l.fn.clock l.walk) l.turns;
-  none : NoneFits l.self.setup (kept_of l.self) l.fn.clock (is_up l.up) → (l.turns.messages.items ≡ []) × (l.turns.packets.items ≡ []);
+  walks : IsWalk l.self l.at (reach_of l.reach) l.walk;
+  turns : IsTurning l.self l.fn.clock (reach_of l.reach) (ids_left l.self l.fn.clock l.walk) l.turns;
+  none : NoneFits l.self.setup (kept_of l.self) l.fn.clock (reach_of l.reach) → (l.turns.messages.items ≡ []) × (l.turns.packets.items ≡ []);
   rising : AreRising (ids_of (ticked (kept_of l.self) l.fn.clock));
 }
 

@@ -20,14 +20,15 @@ doze_due-requires-clause-room c =
 pub invariant_of-self : goal.invariant_of-self
 invariant_of-self c =
     let s = c.self.inside in
-    let held : Noted = record { me = c.args.at.now.author; up = c.args.up } in
+    let me = c.args.at.now.author in
+    let up = c.args.reach.up in
+    let held : Noted = record { me = me; up = up; tries = c.are_all.result } in
     let asleep = c.asleep_at-asleep.result in
     let new = c.doze_due.new in
-    -- if there is a clock, it is noted for the author and the accounts
-    let known : (at : ℕ) → asleep ≡ Some at → IsNoted s.noted c.args.at.now.author c.args.up.items =
-    (λ at is. subst (λ (l : Listed). IsNoted l.noted c.args.at.now.author c.args.up.items) (sym c.self.view_is)
-    (subst (λ (ups : List (List ℕ)). IsNoted c.args.self.now.noted c.args.at.now.author ups) c.deref.ensures.value
-    (c.asleep_at-asleep.ensures.noted.0 (subst IsSome (sym is) refl)))) in
+    -- if there is a clock, it is noted for the author, the accounts and attempts
+    let known : (at : ℕ) → asleep ≡ Some at → IsNoted s.noted me up.items held.tries =
+    (λ at is. subst (λ (l : Listed). IsNoted l.noted me up.items held.tries) (sym c.self.view_is)
+    (subst (IsNoted c.args.self.now.noted me up.items) (sym c.are_all.ensures) (c.asleep_at-asleep.ensures.noted.0 (subst IsSome (sym is) refl)))) in
     shelf_dozed s.noted held s.shelf.entries s.live.items new.live.items new.awake.ids.items (min (vec_capacity s.live) (vec_capacity s.awake.ids))
     (min (vec_capacity new.live) (vec_capacity new.awake.ids)) new.awake.until asleep known c.doze_due.ensures.live
     (λ i. min (c.doze_due.ensures.capacity i) (c.doze_due.ensures.room i)) c.doze_due.ensures.awake c.self.invariant.0 c.self.invariant.1.0

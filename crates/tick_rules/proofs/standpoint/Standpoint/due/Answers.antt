@@ -1,10 +1,8 @@
-use Rattle.std.proofs.Common.{◌≡◌, refl, sym, ap, ◌∙◌, false, Some, None}
+use Rattle.std.proofs.Common.{◌≡◌, sym, ◌∙◌, false, Some, None}
 use Rattle.std.specs.Prelude.{◌&&◌}
 use Rattle.std.proofs.lemmas.Bool.{and_left, and_right}
-use Rattle.mc_model.specs.message.Submission.{Submission}
 use Rattle.node_model.specs.Rules.{is_attempt_by}
 use Rattle.node_model.specs.Starts.{is_idle, moment_behind}
-use Rattle.delivery.specs.Targets.{is_up}
 use Rattle.tick_rules.specs.Standpoints.{kept_of}
 use Rattle.tick_rules.proofs.Waiting.{decree_is_due, due_found, idle_may, telling_is_due}
 use Rattle.tick_rules.proofs.standpoint.Standpoint.due.Goals.{else-cancelled-via-then-cancelled+else-is_idle, else-cancelled-via-else-cancelled}
@@ -18,18 +16,17 @@ returns-in-Some-clause-due c =
       | else-cancelled-via-then-cancelled+else-is_idle w ↦ and_left (is_idle newest.kind) c.args.cancelled (sym w.is_idle.ensures ∙ w.if-is_idle.false)
       | else-cancelled-via-else-cancelled w ↦ and_right (is_idle newest.kind) c.args.cancelled w.if-cancelled.false
     ] in
-    decree_is_due c.args.self.now c.args.attempted c.args.cancelled (is_up c.args.up.now) c.args.chain.now.decrees newest c.submission.result.now
-    c.newest-newest.ensures c.submission.ensures other kept c.in-Some.due
-    (due_found c.args.chain.now.decrees c.moment_behind.result (moment_behind (kept_of c.args.self.now) newest) c.is_up-up.result
-    (is_up c.args.up.now c.submission.result.now.target) c.due.result (Some c.in-Some.due) c.moment_behind.ensures
-    (c.is_up-up.ensures ∙ ap (λ (t : Submission). is_up c.args.up.now t.target) c.behind-chain.view_is) c.in-Some.is c.due.ensures)
+    decree_is_due c.args.self.now c.args.attempted c.args.cancelled c.args.reached c.args.chain.now.decrees newest c.newest-newest.ensures other kept
+    c.in-Some.due
+    (due_found c.args.chain.now.decrees c.moment_behind.result (moment_behind (kept_of c.args.self.now) newest) c.args.reached.begins c.due.result
+    (Some c.in-Some.due) c.moment_behind.ensures c.in-Some.is c.due.ensures)
 
 pub returns-in-Some-clause-may : goal.returns-in-Some-clause-may
 returns-in-Some-clause-may c =
     let newest = c.newest-newest.result.now in
-    idle_may c.args.self.now c.args.chain.now.decrees newest c.is_up-up.result c.in-Some.due c.newest-newest.ensures
-    (due_found c.args.chain.now.decrees c.moment_behind.result (moment_behind (kept_of c.args.self.now) newest) c.is_up-up.result
-    c.is_up-up.result c.due.result (Some c.in-Some.due) c.moment_behind.ensures refl c.in-Some.is c.due.ensures)
+    idle_may c.args.self.now c.args.chain.now.decrees newest c.args.reached.begins c.in-Some.due c.newest-newest.ensures
+    (due_found c.args.chain.now.decrees c.moment_behind.result (moment_behind (kept_of c.args.self.now) newest) c.args.reached.begins c.due.result
+    (Some c.in-Some.due) c.moment_behind.ensures c.in-Some.is c.due.ensures)
 
 pub returns-in-None-clause-due : goal.returns-in-None-clause-due
 returns-in-None-clause-due c =
@@ -39,9 +36,7 @@ returns-in-None-clause-due c =
       | else-cancelled-via-then-cancelled+else-is_idle w ↦ and_left (is_idle newest.kind) c.args.cancelled (sym w.is_idle.ensures ∙ w.if-is_idle.false)
       | else-cancelled-via-else-cancelled w ↦ and_right (is_idle newest.kind) c.args.cancelled w.if-cancelled.false
     ] in
-    telling_is_due c.args.self.now c.args.attempted c.args.cancelled (is_up c.args.up.now) c.args.chain.now.decrees newest c.submission.result.now
-    c.newest-newest.ensures c.submission.ensures other kept
-    (due_found c.args.chain.now.decrees c.moment_behind.result (moment_behind (kept_of c.args.self.now) newest) c.is_up-up.result
-    (is_up c.args.up.now c.submission.result.now.target) c.due.result None c.moment_behind.ensures
-    (c.is_up-up.ensures ∙ ap (λ (t : Submission). is_up c.args.up.now t.target) c.behind-chain.view_is) c.in-None.is c.due.ensures)
+    telling_is_due c.args.self.now c.args.attempted c.args.cancelled c.args.reached c.args.chain.now.decrees newest c.newest-newest.ensures other kept
+    (due_found c.args.chain.now.decrees c.moment_behind.result (moment_behind (kept_of c.args.self.now) newest) c.args.reached.begins c.due.result None
+    c.moment_behind.ensures c.in-None.is c.due.ensures)
     c.telling.result c.telling.ensures.due

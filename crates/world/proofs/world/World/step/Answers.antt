@@ -1,8 +1,9 @@
 use Rattle.std.proofs.Common.{◌≡◌, sym, subst}
 use Rattle.std.specs.Prelude.{OnOk}
 use Rattle.node_runs.specs.Input.TheVariants as inputs
-use Rattle.world.specs.declared.step.Step.{Step}
-use Rattle.world.specs.Runs.{Leads, leaves_up, node_at}
+use Rattle.node_entry.specs.declared.step.Step.{Step}
+use Rattle.world.specs.Runs.{Leads, leaves_up}
+use Rattle.node_entry.specs.Taking.{node_at}
 use Rattle.world.specs.Scenes.{is_up_in}
 use Rattle.world.proofs.Answering.{answered_is, grant_is, input_leads, request_is, tick_is}
 use Rattle.world.proofs.Placing.{taken_up}
@@ -20,7 +21,7 @@ pub returns-in-Tick-clause-leads : goal.returns-in-Tick-clause-leads
 returns-in-Tick-clause-leads c =
     let old = c.args.self.now in
     subst (λ (step : Step). Leads old step c.take-in-Tick.result c.take-in-Tick.new.self) (sym c.in-Tick.is)
-    (input_leads old c.take-in-Tick.new.self _ c.in-Tick.node _ (tick_is old c.in-Tick.node c.in-Tick.moment c.in-Tick.up) c.take-in-Tick.result
+    (input_leads old c.take-in-Tick.new.self _ c.in-Tick.node _ (tick_is old c.in-Tick.node c.in-Tick.moment c.in-Tick.reach) c.take-in-Tick.result
     c.take-in-Tick.ensures.least tt
     c.take-in-Tick.ensures.taken c.take-in-Tick.ensures.refused c.take-in-Tick.ensures.stays)
 
@@ -48,7 +49,7 @@ returns-in-Request-clause-up c =
 pub returns-in-Tick-clause-up : goal.returns-in-Tick-clause-up
 returns-in-Tick-clause-up c =
     subst (λ (step : Step). OnOk c.take-in-Tick.result (is_up_in c.take-in-Tick.new.self (node_at step) ≡ leaves_up step)) (sym c.in-Tick.is)
-    (taken_up c.args.self.now c.take-in-Tick.new.self c.in-Tick.node (inputs.Tick c.in-Tick.moment c.in-Tick.up) c.take-in-Tick.result c.take-in-Tick.ensures.taken)
+    (taken_up c.args.self.now c.take-in-Tick.new.self c.in-Tick.node (inputs.Tick c.in-Tick.moment c.in-Tick.reach) c.take-in-Tick.result c.take-in-Tick.ensures.taken)
 
 pub returns-in-Grant-clause-up : goal.returns-in-Grant-clause-up
 returns-in-Grant-clause-up c =

@@ -1,5 +1,5 @@
 use Rattle.std.proofs.lemmas.Slice.Eq.{bytes_eq-Decides, slice_eq-Decides}
-use Rattle.world.proofs.step.are_same.Goals as goal
+use Rattle.node_parts.proofs.reach.are_same.Goals as goal
 
 pub returns : goal.returns
 returns c = slice_eq-Decides bytes_eq-Decides c.args.accounts.now c.args.others.now c.eq.result c.eq.ensures

@@ -1,17 +1,17 @@
-//! What happens in a world.
+//! What is done at a node.
 
 ghost use Rattle.std.specs.Prelude.{◌≡◌, ◌↔◌, IfOk, IsTrue};
-ghost use Rattle.world.specs.Copies.{IsCopy};
-ghost use Rattle.world.specs.declared.step.Step.TheVariants as steps;
+ghost use Rattle.node_entry.specs.Copies.{IsCopy};
+ghost use Rattle.node_entry.specs.declared.step.Step.TheVariants as steps;
 
 use delivery::Outcome;
 use desk::Request;
 use mc_types::{Moment, MsgId, NodeNo, Slot};
-use node_runs::Found;
+use node_core::{Found, Reach};
 use pdu_codec::SystemId;
 use std::alloc::AllocError;
 
-/// What happens in a world: one step of one node.
+/// What is done at a node, in a world or in threads: one step of one node.
 #[derive(Drop)]
 pub enum Step {
     /// The packet with this number comes to a node.
@@ -26,11 +26,11 @@ pub enum Step {
         account: SystemId,
         request: Request,
     },
-    /// Time passes at a node: the moment, and the accounts of which a session may receive there.
+    /// Time passes at a node: the moment, with the accounts of which a session may receive there, and the messages of which an attempt may begin.
     Tick {
         node: NodeNo,
         moment: Moment,
-        up: Vec<SystemId>,
+        reach: Reach,
     },
     /// The attempt in which the known chain of a message ends is asked for at a node.
     Grant {
@@ -68,7 +68,11 @@ impl Step {
                 account,
                 request,
             } => other.is_request(*node, account, request),
-            Step::Tick { node, moment, up } => other.is_tick(*node, *moment, up),
+            Step::Tick {
+                node,
+                moment,
+                reach,
+            } => other.is_tick(*node, *moment, reach),
             Step::Grant { node, id } => other.is_grant(*node, *id),
             Step::Answered {
                 node,
@@ -109,13 +113,15 @@ impl Step {
     }
 
     /// Whether it is this Tick.
-    fn is_tick(&self, at: NodeNo, then: Moment, accounts: &Vec<SystemId>) -> bool
-        ensures { IsTrue result ↔ IsCopy (steps.Tick at then accounts.now) self.now }
+    fn is_tick(&self, at: NodeNo, then: Moment, told: &Reach) -> bool
+        ensures { IsTrue result ↔ IsCopy (steps.Tick at then told.now) self.now }
     {
         match self {
-            Step::Tick { node, moment, up } => *node == at
-                && *moment == then
-                && are_same(up, accounts),
+            Step::Tick {
+                node,
+                moment,
+                reach,
+            } => *node == at && *moment == then && told.is(reach),
             _ => false,
         }
     }
@@ -182,7 +188,15 @@ impl Step {
                 account,
                 request,
             } => request_copied(*node, account, request)?,
-            Step::Tick { node, moment, up } => tick_copied(*node, *moment, up)?,
+            Step::Tick {
+                node,
+                moment,
+                reach,
+            } => Step::Tick {
+                node: *node,
+                moment: *moment,
+                reach: reach.copy()?,
+            },
             Step::Grant { node, id } => Step::Grant {
                 node: *node,
                 id: *id,
@@ -210,13 +224,6 @@ impl Step {
     }
 }
 
-/// Whether these accounts are the others, in the same order.
-fn are_same(accounts: &[SystemId], others: &[SystemId]) -> bool
-    ensures { IsTrue result ↔ (accounts.now ≡ others.now) }
-{
-    accounts == others
-}
-
 /// The same request of an account once more.
 fn request_copied(node: NodeNo, account: &SystemId, request: &Request) -> Result<Step, AllocError>
     ensures { IfOk result (IsCopy (steps.Request node account.now request.now)) }
@@ -226,26 +233,4 @@ fn request_copied(node: NodeNo, account: &SystemId, request: &Request) -> Result
         account: account.copy()?,
         request: request.copy()?,
     })
-}
-
-/// The same tick once more.
-fn tick_copied(node: NodeNo, moment: Moment, up: &Vec<SystemId>) -> Result<Step, AllocError>
-    ensures { IfOk result (IsCopy (steps.Tick node moment up.now)) }
-{
-    Ok(Step::Tick {
-        node,
-        moment,
-        up: accounts_copied(up)?,
-    })
-}
-
-/// The same accounts once more.
-fn accounts_copied(accounts: &Vec<SystemId>) -> Result<Vec<SystemId>, AllocError>
-    ensures { IfOk result (λ copies. copies.items ≡ accounts.now.items) }
-{
-    let mut copies = Vec::new(*accounts.allocator());
-    for account in accounts {
-        copies.push(account.copy()?)?;
-    }
-    Ok(copies)
 }
