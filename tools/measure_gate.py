@@ -53,6 +53,8 @@ MOST_A_CHECK, MOST_TESTS, MOST_MEMORY = 300, 120, 4_000_000_000
 
 # Minutes of processor time from which on a crate has a row in a whole run: pages have a limit.
 LEAST_SHOWN = 6
+# How many of those that are beyond a budget are named.
+MOST_TOLD = 10
 
 KINDS = ("check", "tests", "edits")
 HEAD = [
@@ -270,20 +272,31 @@ def edits_of(clone, crate, sampler):
 
 
 def beyond_of_crate(clone, crate, sampler):
-    """What of a crate is beyond its budgets."""
+    """What of a crate is beyond its budgets: which budget, and what with which figure."""
     count, tests, clock = len(edits(crate, IN_GATE, clone)), sampler.seconds(crate, "tests"), sampler.clock(crate, "check")
     if count > MOST_EDITS:
-        yield f"`{crate}` has {count} edits in the gate, above {MOST_EDITS}"
+        yield f"more than {MOST_EDITS} edits", f"`{crate}`", f"{count}"
     if clock > MOST_A_CHECK:
-        yield f"the check of `{crate}` takes {clock:.0f} seconds of the clock, above {MOST_A_CHECK}"
+        yield f"checks above {MOST_A_CHECK} seconds of the clock", f"`{crate}`", f"{clock:.0f}"
     if tests > MOST_TESTS:
-        yield f"the tests of `{crate}` take {tests:.0f} seconds, above {MOST_TESTS}"
+        yield f"tests above {MOST_TESTS} seconds", f"`{crate}`", f"{tests:.0f}"
     for kind in KINDS:
         if sampler.memory(crate, kind) > MOST_MEMORY:
-            yield f"the prover of `{crate}` ({kind}) holds {giga(sampler.memory(crate, kind))} GB, above {giga(MOST_MEMORY)}"
+            yield f"provers above {giga(MOST_MEMORY)} GB", f"`{crate}` ({kind})", giga(sampler.memory(crate, kind))
     for edit, spent in edits_of(clone, crate, sampler).items():
         if spent > MOST_AN_EDIT:
-            yield f"the edit `{edit}` takes {spent:.0f} seconds, above {MOST_AN_EDIT}"
+            yield f"edits, but for the first of each crate, above {MOST_AN_EDIT} seconds", f"`{edit}`", f"{spent:.0f}"
+
+
+def told_beyond(beyond):
+    """What is beyond its budgets, in a sentence for each budget: the dearest first, and how many more there are."""
+    by_budget = collections.defaultdict(list)
+    for budget, what, figure in beyond:
+        by_budget[budget].append((float(figure), f"{what} {figure}"))
+    for budget, found in by_budget.items():
+        dearest = [told for _, told in sorted(found, reverse=True)[:MOST_TOLD]]
+        more = f", and {len(found) - MOST_TOLD} more" if len(found) > MOST_TOLD else ""
+        yield from textwrap.wrap(f"- {budget}: {', '.join(dearest)}{more}", WIDTH, subsequent_indent="  ", break_on_hyphens=False)
 
 
 def budget_of(code):
@@ -339,17 +352,13 @@ def narrow(clone, wanted):
 
 def measured(clone, sampler, rows, whole):
     """What was measured, as lines of docs/GATE.md."""
-    found = {edit: spent for crate in libraries(clone) for edit, spent in edits_of(clone, crate, sampler).items()}
-    dearest = [f"`{edit}` {spent:.0f}" for edit, spent in sorted(found.items(), key=lambda edit: -edit[1])[:10]]
-    beyond = [line for crate in libraries(clone) for line in beyond_of_crate(clone, crate, sampler)]
+    beyond = [one for crate in libraries(clone) for one in beyond_of_crate(clone, crate, sampler)]
     return [
         *whole,
         "",
         *HEAD,
         *rows,
-        "",
-        *textwrap.wrap(f"The dearest edits, in seconds, but for the first of each crate: {', '.join(dearest)}.", WIDTH, break_on_hyphens=False),
-        *(["", "Beyond their budgets:", "", *(f"- {one}" for one in beyond)] if beyond else []),
+        *(["", "Beyond their budgets:", "", *told_beyond(beyond)] if beyond else []),
     ]
 
 

@@ -60,6 +60,11 @@ class Plain:
             if esme and not esme.is_ended:
                 esme.ask(pdus.ENQUIRE_LINK)
 
+    def tended(self, ask):
+        """What comes of a request, by which no other ESME gets idle."""
+        self.tend()
+        return ask()
+
     def connected(self, node=1, **given):
         return self.stack.enter_context(Esme(self.ports[node - 1], **given))
 
@@ -106,9 +111,9 @@ class Plain:
 
     def queue(self):
         """Behind it no attempt begins of more messages than fill its window twice: all others can be cancelled."""
-        queued = [self.main.submitted(SILENT, b"queued %d" % number) for number in range(QUEUED)]
+        queued = [self.tended(lambda: self.main.submitted(SILENT, b"queued %d" % number)) for number in range(QUEUED)]
         self.main.wait(lambda: False, 3)
-        found = [self.main.cancel(message_id) for message_id in queued[2 * WINDOW:]]
+        found = [self.tended(lambda: self.main.cancel(message_id)) for message_id in queued[2 * WINDOW:]]
         refused = [status for status in found if status != pdus.OK]
         self.check("queued_messages_are_cancelled", not refused, lambda: f"{len(refused)} of {len(found)} refused: {sorted(set(refused))}")
 

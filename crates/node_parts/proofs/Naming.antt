@@ -1,5 +1,5 @@
 -- A tick passes by those that are asleep and of which no attempt may begin, unless of all.
-use Rattle.std.proofs.Common.{◌≡◌, ◌⊎◌, ℕ, zero, suc, ◌-◌, ◌<◌, ◌≤◌, Bool, true, false, cond, List, [], ◌∷◌, drop, length, length-drop, take, Option, Some, None, refl, sym, ap, subst, ◌∙◌}
+use Rattle.std.proofs.Common.{◌≡◌, ◌⊎◌, ℕ, zero, suc, ◌-◌, ◌<◌, ◌≤◌, Bool, true, false, cond, List, [], ◌∷◌, drop, length, take, Option, Some, None, refl, sym, ap, subst, ◌∙◌}
 use Rattle.std.proofs.Common.{inl, inr, arith}
 use Rattle.std.specs.Prelude.{◌==◌, ◌&&◌, ◌||◌, Result, Ok, Err, is_ok, is_some, nat_lt, if◌then◌else◌}
 use Rattle.std.specs.List.{find}
@@ -36,7 +36,6 @@ use Rattle.node_parts.specs.Reaching.{are_all, may_of, named_in, reach_of}
 use Rattle.node_parts.specs.Rising.{has_id}
 use Rattle.node_parts.specs.Sleeping.{IsAsleep, IsNoted, reach_noted}
 use Rattle.node_parts.proofs.IdLists.{tail_cut}
-use Rattle.node_parts.proofs.Listings.{take_all}
 use Rattle.node_parts.proofs.Living.{listed_key}
 use Rattle.node_parts.proofs.Looking.{absent, at_in}
 use Rattle.node_parts.proofs.Rising.{each}
@@ -130,15 +129,6 @@ no_rest from = record {
     behind = λ other d least within. absurd (omega (arith, within));
   };
   behind = refl;
-}
-
-pub is_rest : (ids : List ℕ) (from place : ℕ) (rest : List ℕ) → AreRising ids → IsCut ids from place →
-    rest ≡ take (length ids - place) (drop place ids) → IsRest ids from rest
-is_rest ids from place rest rise cut is = record {
-  rising = rise;
-  place = place;
-  cut = cut;
-  behind = is ∙ take_all (length ids - place) (drop place ids) (omega (arith, length-drop place ids));
 }
 
 -- ---- one more
