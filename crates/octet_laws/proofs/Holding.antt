@@ -399,8 +399,8 @@ tick_so input setup k moment reach = record {
     timely : Kept
     timely = ticked k now
 
-    same : Same timely (ruled_each setup up (ids_of timely) timely).kept
-    same = each_same setup up (ids_of timely) timely
+    same : Same timely (ruled_each setup reach (ids_of timely) timely).kept
+    same = each_same setup reach (ids_of timely) timely
 
     never : (chain : List Decree) → TooLate ≡ Removed chain → ⊥
     never chain is = cc
