@@ -19,7 +19,7 @@ use Rattle.pdu_tables.specs.declared.status.Status.{Status}
 use Rattle.delivery.specs.Kept.{outcome_kept}
 use Rattle.node_kept.specs.Admissions.{admitted}
 use Rattle.node_kept.specs.Arrivals.{door_at, judged_as, next_id}
-use Rattle.node_parts.specs.Reaching.{reach_of}
+use Rattle.node_kept.specs.Reaching.{reach_of}
 use Rattle.synod_acceptor.proofs.Slots.{is_same}
 use Rattle.synod_acceptor.specs.Votes.{record_of, slot_recorded}
 use Rattle.synod_acceptor.specs.declared.packet.Packet.{Packet as Sent}
