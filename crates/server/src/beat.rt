@@ -6,9 +6,9 @@ use std::rt::Clock;
 /// How long behind its last tick a node ticks at once, at the earliest, in milliseconds.
 const LEAST_GAP: u64 = 20;
 
-/// How many times as long as its last tick and the rounds that it began took, and as many times as there are nodes, at the earliest: a tick ends all rounds of
-/// its node, and begins one for each message that the node voted on and does not know. So the ticks of all nodes add one round to so many.
-const ROUNDS_IN_GAP: u64 = 4;
+/// How many times as long as its last tick and the rounds that it began took, at the earliest: a tick ends all rounds of its node, and begins one for each message
+/// that the node voted on and does not know.
+const ROUNDS_IN_GAP: u64 = 2;
 
 /// How long behind each other it is begun to look at all messages that may be granted, in milliseconds: so one is found that waits nowhere, as for want of memory.
 const LOOK_GAP: u64 = 60_000;
@@ -45,9 +45,9 @@ impl Beat {
         begins_look
     }
 
-    /// The rounds are through that its last tick began, beside so many nodes in all.
-    pub(crate) fn pass<R: Clock>(&mut self, rt: &R, nodes: usize) {
-        let taken = self.ticked.gone(rt).saturating_mul(nodes as u64);
+    /// The rounds are through that its last tick began.
+    pub(crate) fn pass<R: Clock>(&mut self, rt: &R) {
+        let taken = self.ticked.gone(rt);
         self.gap = taken.saturating_mul(ROUNDS_IN_GAP).max(LEAST_GAP);
     }
 

@@ -84,11 +84,10 @@ pub(crate) fn tick_on<S: StableStore, L: Begins, R: Wait + Eprint + Clock>(
         shift.shared.house.end.set(shift.rt, Ending::Threads);
         return;
     };
-    let nodes = shift.shared.house.stations.len();
     let mut beat = Beat::begin(shift.rt);
     for _ in shift.rt.forever() {
         wait_for_rounds(shift);
-        beat.pass(shift.rt, nodes);
+        beat.pass(shift.rt);
         let is_at_once = wait_for_turn(shift, &beat);
         start_anew_if_low(shift, is_at_once);
         if shift.is_over() {
