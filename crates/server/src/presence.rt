@@ -33,8 +33,7 @@ impl Presence {
         now: u32,
         linger_seconds: u32,
     ) -> Result<(), AllocError> {
-        self.seen
-            .retain(&|seen: &Seen| seen.at.saturating_add(linger_seconds) > now);
+        self.seen.retain(&|seen: &Seen| seen.at.saturating_add(linger_seconds) > now);
         for account in up {
             self.note(account, now)?;
         }
