@@ -80,7 +80,7 @@ impl Kept {
         Ok(kept)
     }
 
-    /// MayBegin in this incarnation, of a node that opened and took no step yet. It takes no memory.
+    /// Begins in this incarnation, of a node that opened and took no step yet. It takes no memory.
     pub fn begin(&mut self, incarnation: Incarnation)
         ensures { (with : SetupValue) (starts : ℕ) (records : Records) → IsOpen with starts records self.old → IsOpen with incarnation records self.new }
     {

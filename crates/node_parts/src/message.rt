@@ -373,10 +373,10 @@ impl Message {
         }
     }
 
-    /// What a tick decides on the message of this id by the first rule that fits, if one does: it is taken for a submit_sm that waits, the
-    /// highest vote beyond what is known is followed that is its own or was told to a request, or it is decided what is due after that. `reach`
-    /// has the accounts of which a session may receive and the messages of which an attempt may begin, `queue` the requests that wait, of which those count that did not wait too long. It
-    /// takes memory only if a rule fits.
+    /// What a tick decides on the message of this id by the first rule that fits, if one does: it is taken for a submit_sm that waits, the highest vote
+    /// beyond what is known is followed that is its own or was told to a request, or it is decided what is due after that. `reach` has the accounts of
+    /// which a session may receive and the messages of which an attempt may begin, and `queue` the requests that wait, of which those count that did not
+    /// wait too long. It takes memory only if a rule fits.
     pub fn ruling(
         &self,
         id: MsgId,
