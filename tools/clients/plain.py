@@ -22,8 +22,11 @@ PASSWORDS = {name: f"pw{name}" for name in ("plain", "many", "silent", "lost", "
 PLAIN, MANY, SILENT, LOST, OLDER, GETTER, FLAP = "30", "31", "32", "33", "34", "35", "36"
 WINDOW = 10
 MESSAGES = 200
-# Messages behind one that answers nothing.
-QUEUED = 300
+# Messages behind one that answers nothing, and how many of them are cancelled; and the validity_period of others: five seconds.
+QUEUED, CANCELLED = 1_000, 900
+BRIEF = "000000000005000R"
+# Messages that wait before one of another node, and how many of them go out before it at most.
+BEFORE, MOST_BEFORE = 200, 60
 SECONDS = 240
 # A peer that never reads can send no more than this before it has to wait, whatever the buffers of the system are.
 MOST_FLOODED = 64_000_000
@@ -110,12 +113,16 @@ class Plain:
         self.check("silent_esme_holds_up_nobody", self.main.wait(lambda: self.main.messages(b"beside a silent one"), 5), "no deliver_sm")
 
     def queue(self):
-        """Behind it no attempt begins of more messages than fill its window twice: all others can be cancelled."""
+        """Behind it no attempt begins of more messages than fill its window twice: all others can be cancelled, and expire."""
         queued = [self.tended(lambda: self.main.submitted(SILENT, b"queued %d" % number)) for number in range(QUEUED)]
+        brief = [self.main.submitted(SILENT, b"brief %d" % number, validity=BRIEF) for number in range(WINDOW)]
         self.main.wait(lambda: False, 3)
-        found = [self.tended(lambda: self.main.cancel(message_id)) for message_id in queued[2 * WINDOW:]]
+        found = [self.tended(lambda: self.main.cancel(message_id)) for message_id in queued[-CANCELLED:]]
         refused = [status for status in found if status != pdus.OK]
         self.check("queued_messages_are_cancelled", not refused, lambda: f"{len(refused)} of {len(found)} refused: {sorted(set(refused))}")
+        self.main.wait(lambda: False, 6)
+        found = [self.main.state(message_id)[2] for message_id in brief]
+        self.check("queued_messages_expire", found == [pdus.EXPIRED] * WINDOW, found)
 
     # Short ones.
 
@@ -371,6 +378,24 @@ class Plain:
         found = [self.main.state(message_id)[2:] for message_id in later]
         self.check("attempts_fail_if_nobody_comes", found == [(pdus.ENROUTE, NO_ANSWER)] * (WINDOW + 5), found)
 
+    def fair(self):
+        """A message of another node does not wait for all that wait for its account before it."""
+        slow, sender = self.bound("flap"), self.bound("sender", 3, command=pdus.BIND_TRANSMITTER)
+        slow.status = None
+        for number in range(BEFORE):
+            self.tended(lambda: self.main.submitted(FLAP, b"%d before" % number, registered=0))
+        sender.submitted(FLAP, b"of another node", registered=0)
+        answered = 0
+        while answered < MOST_BEFORE and not slow.messages(b"of another node"):
+            if not wait([self.main, slow, sender], lambda: len(slow.messages()) > answered, 5):
+                break
+            for one in slow.messages()[answered:]:
+                slow.send(pdus.frame(pdus.DELIVER_SM | pdus.RESPONSE, one["sequence"], b"\0"))
+                answered += 1
+        self.check("another_node_need_not_wait_for_all_before", slow.messages(b"of another node"), f"{answered} came")
+        slow.unbind()
+        sender.unbind()
+
     def never_reads(self):
         """A peer that asks without an end and reads nothing has to wait in the end; the node serves others meanwhile, and ends it."""
         flooder = self.connected(3, receive_buffer=4096)
@@ -471,9 +496,9 @@ class Plain:
         self.check("main_session_lives", not self.main.is_ended and self.main.unbind() == pdus.OK, "it is gone")
 
 
-PARTS = (Plain.silence, Plain.vanish, Plain.full_account, Plain.queue, Plain.at_once, Plain.before_bind, Plain.roles, Plain.window, Plain.pieces, Plain.wrong_lengths,
-         Plain.longest, Plain.older_version, Plain.answers_of_all_kinds, Plain.two_hundred, Plain.two_sessions, Plain.flaps, Plain.never_reads,
-         Plain.places,          Plain.silence_ends, Plain.full_account_goes_on, Plain.vanished_one_returns, Plain.ends)
+PARTS = (Plain.silence, Plain.vanish, Plain.full_account, Plain.queue, Plain.at_once, Plain.before_bind, Plain.roles, Plain.window, Plain.pieces,
+         Plain.wrong_lengths, Plain.longest, Plain.older_version, Plain.answers_of_all_kinds, Plain.two_hundred, Plain.two_sessions, Plain.flaps, Plain.fair,
+         Plain.never_reads, Plain.places, Plain.silence_ends, Plain.full_account_goes_on, Plain.vanished_one_returns, Plain.ends)
 
 
 def out_of_time(*_):
