@@ -1,0 +1,17 @@
+pub mod Holding
+pub mod Resting
+pub mod Reviving
+pub mod Sparing
+pub mod Rehearing
+pub mod Dropping
+pub mod Ticking
+pub mod Staying
+pub mod Anew
+pub mod Cooling
+pub mod Warming
+pub mod Thawing
+pub mod Noting
+pub mod Hearing
+pub mod Going
+pub mod Starting
+pub mod Fated

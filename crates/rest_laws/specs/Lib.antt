@@ -1,0 +1,10 @@
+pub mod Mini
+pub mod Rest
+pub mod Again
+pub mod Revival
+pub mod Dropped
+pub mod Anew
+pub mod Cooled
+pub mod Example
+pub mod Doing
+pub mod History
