@@ -1,5 +1,0 @@
-use Rattle.rest_laws.proofs.Fated.{one_fate}
-use Rattle.rest_laws.proofs.clusters.nodes_that_drop_tell_one_fate.Goals as goal
-
-pub returns : goal.returns
-returns c = one_fate

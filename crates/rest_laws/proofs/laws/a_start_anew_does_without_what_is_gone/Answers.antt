@@ -1,5 +1,0 @@
-use Rattle.rest_laws.proofs.Anew.{starts_without}
-use Rattle.rest_laws.proofs.laws.a_start_anew_does_without_what_is_gone.Goals as goal
-
-pub returns : goal.returns
-returns c = starts_without

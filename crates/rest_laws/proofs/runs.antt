@@ -1,0 +1,6 @@
+pub mod Worlds
+pub mod Stepping
+pub mod Starting
+pub mod Histories
+pub mod Splits
+pub mod Given
