@@ -4,3 +4,5 @@ pub mod Starting
 pub mod Histories
 pub mod Splits
 pub mod Given
+pub mod Over
+pub mod Calm

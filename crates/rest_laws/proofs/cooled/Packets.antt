@@ -31,6 +31,7 @@ use Rattle.rest_laws.proofs.cooled.Entries.{cool_twice, cooling, message_cooled,
 use Rattle.rest_laws.proofs.forgetting.Kept.{Forgetting, either}
 use Rattle.rest_laws.proofs.forgetting.Others.{arrival_same}
 use Rattle.rest_laws.proofs.forgetting.Packets.{answer_same, found_in, promise_same, refused_same, tell_held_same, voted_same}
+use Rattle.rest_laws.proofs.forgetting.Staying.{settled_as}
 use Rattle.rest_laws.proofs.without.Resting.{and_no, decree, fate_stays, told_stays}
 
 pub higher_none : (chain : List Decree) (top told : Option TopVote) → follow (Some chain) top ≡ None → follow (Some chain) told ≡ None →
@@ -63,13 +64,6 @@ module _ (cold : ℕ → Bool) where
           fate_stays setup k id held newest.author newest.moment final error older (taken_in (decree newest.author newest.moment (Fate final error) ∷ older))
       by Told last = told_stays setup k id held newest.author newest.moment older (taken_in (decree newest.author newest.moment Told ∷ older))
 
-  settled_top : (nodes : ℕ) (known : Option (List Decree)) (h : Held) → (settled_by nodes known h).top ≡ h.top
-  settled_top nodes known h = by (settles nodes known h)
-    where
-      by : (b : Bool) → (if b then record h { waiting = record h.waiting { settled = true } } else h).top ≡ h.top
-      by true = refl
-      by false = refl
-
   if_none : (b : Bool) (start : Option Start) → start ≡ None → (if b then start else None) ≡ None
   if_none true start none = none
   if_none false start none = refl
@@ -78,7 +72,7 @@ module _ (cold : ℕ → Bool) where
   if_both true one other first second = first
   if_both false one other first second = second
 
-  starts_no : (setup : Setup) (k : Kept) (chain : List Decree) (told new : Held) → is_over chain ≡ true → follow (Some chain) new.top ≡ None →
+  pub starts_no : (setup : Setup) (k : Kept) (chain : List Decree) (told new : Held) → is_over chain ≡ true → follow (Some chain) new.top ≡ None →
       start_told setup k (Some chain) told new ≡ None
   starts_no setup k chain told new over reached =
       if_both (settles setup.nodes (Some chain) told) (delete_for setup k (id_of new) (new ∷ []) (Some chain)) (follow_told setup.nodes (Some chain) new)
@@ -96,24 +90,28 @@ module _ (cold : ℕ → Bool) where
       (answer_told (started setup (record k { held = with_held k.held new }) (id_of new) (sym here i)) new (answer_to setup.nodes (Some chain) new))))
 
   tell_cold : (setup : Setup) (k : Kept) (teller : ℕ) (told : Option TopVote) (h : Held) → cold (id_of h) ≡ true → IsCalm k (id_of h) → In h k.held →
-      follow (message_at k (id_of h)).known told ≡ None →
+      (tells_about told (id_of h) ≡ true → follow (message_at k (id_of h)).known told ≡ None) →
       tell_held setup (cool cold k) teller told (Some h) ≡ cool_step cold (tell_held setup k teller told (Some h))
-  tell_cold setup k teller told h is calm among suits =
-      let kc : (message_at (cool cold k) (id_of h)).known ≡ Some calm.chain =
-      ap (λ (m : Message). m.known) (message_cooled cold k (id_of h) is) ∙ calm.known in
-      let next : follow (Some calm.chain) told ≡ None = ap (λ (o : Option (List Decree)). follow o told) (sym calm.known) ∙ suits in
-      let top : follow (Some calm.chain) (settled_by setup.nodes (Some calm.chain) (told_by h teller told)).top ≡ None =
-      ap (follow (Some calm.chain)) (settled_top setup.nodes (Some calm.chain) (told_by h teller told))
-      ∙ higher_none calm.chain h.top told (calm.told h among refl) next in
-      (λ i. if tells_about told (id_of h) then told_to setup (cool cold k) (kc i) (told_by h teller told) else leaves (cool cold k))
-      ∙ ((λ i. if tells_about told (id_of h)
-      then cold_told setup k calm.chain (told_by h teller told) (settled_by setup.nodes (Some calm.chain) (told_by h teller told)) calm.over top i
-      else leaves (cool cold k))
-      ∙ (either c (tells_about told (id_of h)) (told_to setup k (Some calm.chain) (told_by h teller told)) (leaves k)
-      ∙ (λ i. cool_step cold (if tells_about told (id_of h) then told_to setup k (sym calm.known i) (told_by h teller told) else leaves k))))
+  tell_cold setup k teller told h is calm among suits = by (tells_about told (id_of h)) refl
+    where
+      by : (b : Bool) → tells_about told (id_of h) ≡ b →
+          (if b then told_to setup (cool cold k) (message_at (cool cold k) (id_of h)).known (told_by h teller told) else leaves (cool cold k))
+          ≡ cool_step cold (if b then told_to setup k (message_at k (id_of h)).known (told_by h teller told) else leaves k)
+      by false other = refl
+      by true about =
+          let there : (message_at (cool cold k) (id_of h)).known ≡ Some calm.chain =
+          ap (λ (m : Message). m.known) (message_cooled cold k (id_of h) is) ∙ calm.known in
+          let next : follow (Some calm.chain) told ≡ None = ap (λ (o : Option (List Decree)). follow o told) (sym calm.known) ∙ suits about in
+          let top : follow (Some calm.chain) (settled_by setup.nodes (Some calm.chain) (told_by h teller told)).top ≡ None =
+          ap (follow (Some calm.chain)) (settled_as setup.nodes (Some calm.chain) (told_by h teller told)).top
+          ∙ higher_none calm.chain h.top told (calm.told h among refl) next in
+          (λ i. told_to setup (cool cold k) (there i) (told_by h teller told))
+          ∙ (cold_told setup k calm.chain (told_by h teller told) (settled_by setup.nodes (Some calm.chain) (told_by h teller told)) calm.over top
+          ∙ (λ i. cool_step cold (told_to setup k (sym calm.known i) (told_by h teller told))))
 
   tell_any : (setup : Setup) (k : Kept) (teller : ℕ) (told : Option TopVote) (found : Option Held) → AreCalm cold k →
-      ((h : Held) → found ≡ Some h → In h k.held) → ((h : Held) → found ≡ Some h → cold (id_of h) ≡ true → follow (message_at k (id_of h)).known told ≡ None) →
+      ((h : Held) → found ≡ Some h → In h k.held) →
+      ((h : Held) → found ≡ Some h → cold (id_of h) ≡ true → tells_about told (id_of h) ≡ true → follow (message_at k (id_of h)).known told ≡ None) →
       tell_held setup (cool cold k) teller told found ≡ cool_step cold (tell_held setup k teller told found)
   tell_any setup k teller told None calm among suits = refl
   tell_any setup k teller told (Some h) calm among suits = by (cold (id_of h)) refl
@@ -172,7 +170,7 @@ module _ (cold : ℕ → Bool) where
           (cooled_same slot.id _ _ is same) i))
           (left k)
 
-  unheard : (setup : Setup) (k : Kept) (id : ℕ) (m : Message) (vote : Vote) → is_shorter m.known vote.chain ≡ false →
+  pub unheard : (setup : Setup) (k : Kept) (id : ℕ) (m : Message) (vote : Vote) → is_shorter m.known vote.chain ≡ false →
       heard_in setup k id m vote ≡ leaves (with_message k id m)
   unheard setup k id m vote short =
       let no : makes_known setup.nodes m vote ≡ false =
@@ -201,7 +199,7 @@ module _ (cold : ℕ → Bool) where
   saved_same : (k : Kept) (slot : Slot) (judgement : Judgement) → judged (cool cold k) slot judgement ≡ cool_step cold (judged k slot judgement)
   saved_same k slot judgement = λ i. sends (saved_cool cold k slot judgement.after i) (judgement.answer ∷ []) [] []
 
-  pub packet_any : (setup : Setup) (k : Kept) (packet : Packet) → AreCalm cold k → SuitsPacket cold k packet →
+  pub packet_any : (setup : Setup) (k : Kept) (packet : Packet) → AreCalm cold k → SuitsPacket setup cold k packet →
       cool_step cold (on_packet setup (cool cold k) packet) ≡ cool_step cold (on_packet setup k packet)
   packet_any setup k (Prepare sender slot ballot) calm suits =
       alike_if (is_member setup sender) (judged (cool cold k) slot (prepare_judged setup.node slot ballot (k.records slot))) (leaves (cool cold k))
@@ -231,12 +229,14 @@ module _ (cold : ℕ → Bool) where
       (step_twice (sends k (Tell setup.node name (told_of k.records id) ∷ []) [] [])) (left k)
   packet_any setup k (Tell sender name told) calm suits =
       alike_if (is_member setup sender) (on_tell setup (cool cold k) sender name told) (leaves (cool cold k)) (on_tell setup k sender name told) (leaves k)
-      (alike_if (is_own_name setup k name) (tell_held setup (cool cold k) sender told (held_at k.held name.ticket)) (leaves (cool cold k))
-      (tell_held setup k sender told (held_at k.held name.ticket)) (leaves k)
-      (alike _ _ (tell_any setup k sender told (held_at k.held name.ticket) calm
-      (λ h is. found_in (λ (x : Held). ticket_of x == name.ticket) k.held h is) suits))
-      (left k))
-      (left k)
+      (by (is_own_name setup k name) refl) (left k)
+    where
+      by : (b : Bool) → is_own_name setup k name ≡ b →
+          cool_step cold (if b then tell_held setup (cool cold k) sender told (held_at k.held name.ticket) else leaves (cool cold k))
+          ≡ cool_step cold (if b then tell_held setup k sender told (held_at k.held name.ticket) else leaves k)
+      by false is = left k
+      by true is = alike _ _ (tell_any setup k sender told (held_at k.held name.ticket) calm
+          (λ h at. found_in (λ (x : Held). ticket_of x == name.ticket) k.held h at) (suits is))
 
   pub arrival_any : (setup : Setup) (k : Kept) (request : Request) → (asks request ≡ false → cold (id_in request) ≡ false) →
       on_arrival setup (cool cold k) request ≡ cool_step cold (on_arrival setup k request)

@@ -258,7 +258,7 @@ module _ (cold : ℕ → Bool) where
   restarted_cool setup k lost =
       λ i. record (restarted setup k lost) { messages = map (λ id. (id, unseen)) (recorded_in k.records (keys_cool k.messages i)) }
 
-  up_cool : (setup : Setup) (k : Kept) (input : Input) → AreCalm cold k → Suits cold k input →
+  up_cool : (setup : Setup) (k : Kept) (input : Input) → AreCalm cold k → Suits setup cold k input →
       cool_step cold (stepped_up setup (cool cold k) input) ≡ cool_step cold (stepped_up setup k input)
   up_cool setup k (Delivery packet) calm suits = packet_any cold setup k packet calm suits
   up_cool setup k (Crash packet after) calm suits = alike cold _ _ (λ i. leaves (stopped_any cold setup k packet after i))
@@ -280,7 +280,7 @@ module _ (cold : ℕ → Bool) where
   down_cool setup k (Response slot outcome) = step_twice cold (leaves k)
   down_cool setup k (Restart lost) = λ i. cool_step cold (leaves (restarted_cool setup k lost i))
 
-pub step_cool : (setup : Setup) (k : Kept) (cold : ℕ → Bool) (input : Input) → AreCalm cold k → Suits cold k input →
+pub step_cool : (setup : Setup) (k : Kept) (cold : ℕ → Bool) (input : Input) → AreCalm cold k → Suits setup cold k input →
     cool_step cold (stepped setup (cool cold k) input) ≡ cool_step cold (stepped setup k input)
 step_cool setup k cold input calm suits = by k.up
   where

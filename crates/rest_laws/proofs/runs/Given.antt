@@ -9,9 +9,9 @@ use Rattle.mc_model.specs.node.Outcome.{Concluded}
 use Rattle.mc_model.specs.node.Outputs.{Outputs, Reply}
 use Rattle.mc_model.specs.node.Replies.{Accepted, Shown, Unknown}
 use Rattle.mc_model.specs.synod.Lists.{In}
-use Rattle.mc_model.specs.synod.Packet.{Packet, slot_of}
+use Rattle.mc_model.specs.synod.Packet.{Packet, Slot, slot_of}
 use Rattle.node_laws.specs.Chosen.{WasVotedFor}
-use Rattle.node_laws.specs.Clusters.{CameEarlier, GrantsOut, LivesOn, MayHappen, NodeInput, OneOfEach, RepliesWith, StatesFinal, cluster_outputs, comes_to, kept_reached, outputs_at, receipts_given}
+use Rattle.node_laws.specs.Clusters.{CameEarlier, GrantsOut, IsDeliveredBy, LivesOn, MayHappen, NodeInput, OneOfEach, RepliesWith, StatesFinal, cluster_outputs, comes_to, kept_reached, outputs_at, receipts_given}
 use Rattle.node_laws.specs.GivenOut.{Cancels, CancelsDelete, ReceiptsStand}
 use Rattle.node_laws.proofs.cluster.Chosen.{given_out_was_chosen}
 use Rattle.node_laws.proofs.cluster.Delivered.{delivered as was_delivered}
@@ -23,7 +23,7 @@ use Rattle.node_laws.proofs.cluster.Stated.{one_final}
 use Rattle.rest_laws.specs.Histories.{HasRun, IsDeliveredIn, LivesThrough}
 use Rattle.rest_laws.specs.Remains.{Event, IsHistory, Takes, given_at, given_in, remains_after}
 use Rattle.rest_laws.proofs.runs.Histories.{SameBut, behind, earlier_in_run, given_same, in_run, receipts_same}
-use Rattle.rest_laws.proofs.runs.Splits.{IsCut, cut, found, lives_on}
+use Rattle.rest_laws.proofs.runs.Splits.{IsCut, IsFound, cut, found, lives_on}
 
 -- ---- over all that was given out
 
@@ -73,6 +73,32 @@ states_there one other id final same says = record {
   state = says.state;
 }
 
+abbrev slot_by : (id : ℕ) (chain : List Decree) (inputs : List NodeInput) → IsDeliveredBy id chain inputs → Slot
+slot_by id chain past by = slot_of id (by.attempt ∷ by.older)
+
+-- the two steps are found among the events
+taken_by : {cluster : Cluster} {inputs newest oldest : List NodeInput} (id : ℕ) (chain : List Decree) (by : IsDeliveredBy id chain inputs) (events : List Event)
+    (late : IsFound cluster events newest oldest by.attempt.author.node (Response (slot_by id chain inputs by) (Concluded Delivered 0)))
+    (early : IsFound cluster late.older by.granted.middle by.granted.older by.attempt.author.node (Grant (slot_by id chain inputs by))) →
+    IsDeliveredIn id chain events
+taken_by id chain by events late early = record {
+  fate = by.fate;
+  attempt = by.attempt;
+  older = by.older;
+  number = by.number;
+  chain_is = by.chain_is;
+  attempted = by.attempted;
+  delivered = by.delivered;
+  author = by.author;
+  granted = record {
+    newer = late.before;
+    middle = early.before;
+    older = early.older;
+    split = late.split ∙ (λ i. late.before ++ Takes by.attempt.author.node (Response (slot_of id (by.attempt ∷ by.older)) (Concluded Delivered 0)) ∷ early.split i);
+    lives = λ lost starts. by.granted.lives lost (early.starts by.attempt.author.node lost starts);
+  };
+}
+
 module _ (cluster : Cluster) (node : ℕ) (input : Input) (older : List Event) (may : IsHistory cluster (Takes node input ∷ older)) where
   abbrev it : HasRun cluster (Takes node input ∷ older)
   it = behind cluster (Takes node input ∷ older) may
@@ -105,23 +131,7 @@ module _ (cluster : Cluster) (node : ℕ) (input : Input) (older : List Event) (
       by.attempt.author.node (Response slot (Concluded Delivered 0)) tt by.granted.split in
       let early = found cluster late.older (by.granted.middle ++ comes_to by.attempt.author.node (Grant slot) ∷ by.granted.older) late.stand
       by.granted.middle by.granted.older by.attempt.author.node (Grant slot) tt refl in
-      record {
-        fate = by.fate;
-        attempt = by.attempt;
-        older = by.older;
-        number = by.number;
-        chain_is = by.chain_is;
-        attempted = by.attempted;
-        delivered = by.delivered;
-        author = by.author;
-        granted = record {
-          newer = late.before;
-          middle = early.before;
-          older = early.older;
-          split = late.split ∙ (λ i. late.before ++ Takes by.attempt.author.node (Response slot (Concluded Delivered 0)) ∷ early.split i);
-          lives = λ lost starts. by.granted.lives lost (early.starts by.attempt.author.node lost starts);
-        };
-      }
+      taken_by id says.chain by older late early
 
 -- ---- later requests
 

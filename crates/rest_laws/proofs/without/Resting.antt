@@ -110,7 +110,7 @@ no_rule setup k reach id rest =
     ap (known_rule setup k reach id) rest.known ∙ no_known setup k reach id rest.chain rest.over in
     λ i. option_or (fitting Take (t i)) (option_or (fitting Follow (f i)) (r i))
 
-no_attempt : (setup : Setup) (k : Kept) (id : ℕ) (chain : List Decree) → is_over chain ≡ true →
+pub no_attempt : (setup : Setup) (k : Kept) (id : ℕ) (chain : List Decree) → is_over chain ≡ true →
     known_refusal setup k (message_at k id) (Some chain) ≡ Some NotChosen
 no_attempt setup k id [] over = absurd (cc)
 no_attempt setup k id (newest ∷ older) over = by newest.kind over
