@@ -1,4 +1,4 @@
--- What a history of nodes that drop messages has in it (own; DELIVERED is that of SMPP 3.4, 5.2.28).
+-- What a history of nodes that forget messages has in it (own; DELIVERED is that of SMPP 3.4, 5.2.28).
 use Rattle.std.specs.Prelude.{◌≡◌, ℕ, List, ◌∷◌, ◌++◌}
 use Rattle.mc_model.specs.cluster.Steps.{Cluster}
 use Rattle.mc_model.specs.message.Chain.{untold}

@@ -57,7 +57,7 @@ module _ (cold : ℕ → Bool) where
       by true at rest = let same : id ≡ e.0 = same_key id e.0 at in λ i. cooled_if (cold (sym same i)) e.1
       by false at rest = rest
 
-  message_cool : (k : Kept) (id : ℕ) → message_at (cool cold k) id ≡ cooled_if (cold id) (message_at k id)
+  pub message_cool : (k : Kept) (id : ℕ) → message_at (cool cold k) id ≡ cooled_if (cold id) (message_at k id)
   message_cool k id = lookup_cool k.messages id
 
   pub message_cooled : (k : Kept) (id : ℕ) → cold id ≡ true → message_at (cool cold k) id ≡ cooled (message_at k id)

@@ -28,7 +28,7 @@ use Rattle.node_model.specs.Acceptor.{Judgement}
 use Rattle.rest_laws.specs.AtRest.{is_last, is_over}
 use Rattle.rest_laws.specs.Cooled.{AreCalm, IsCalm, SuitsPacket, cool, cool_step, cooled, cooled_if}
 use Rattle.rest_laws.proofs.cooled.Entries.{cool_twice, cooling, message_cooled, saved_cool, with_any}
-use Rattle.rest_laws.proofs.forgetting.Kept.{Forgetting, either}
+use Rattle.rest_laws.proofs.forgetting.Kept.{Forgetting}
 use Rattle.rest_laws.proofs.forgetting.Others.{arrival_same}
 use Rattle.rest_laws.proofs.forgetting.Packets.{answer_same, found_in, promise_same, refused_same, tell_held_same, voted_same}
 use Rattle.rest_laws.proofs.forgetting.Staying.{settled_as}

@@ -1,9 +1,9 @@
 -- No attempt of a message opens, unless it is granted.
-use Rattle.std.proofs.Common.{◌≡◌, ◌⊎◌, ℕ, suc, pred, max, Bool, true, false, List, [], ◌∷◌, ◌++◌, filter, map, Option, Some, None, is_some, refl, sym, subst, ap, ◌∙◌}
+use Rattle.std.proofs.Common.{◌≡◌, ℕ, suc, pred, max, Bool, true, false, List, [], ◌∷◌, map, Option, Some, None, is_some, refl, subst, ap, ◌∙◌}
 use Rattle.std.specs.Prelude.{◌==◌, ◌&&◌, not, if◌then◌else◌}
 use Rattle.std.proofs.lemmas.Bool.{eq-eqb, eqb-true}
 use Rattle.mc_model.specs.message.Decree.{Decree}
-use Rattle.mc_model.specs.node.Actor.{Request, id_in}
+use Rattle.mc_model.specs.node.Actor.{id_in}
 use Rattle.mc_model.specs.node.FirstRule.{Announce, Close, Delete, Expire, Follow, GiveUp, Lose, Rule, Take, Try, Undeliver}
 use Rattle.mc_model.specs.node.Input.{Arrival, Crash, Delivery, Grant, Input, Refusal, Response, Restart, Tick}
 use Rattle.mc_model.specs.node.Outcome.{Outcome, Unanswered, no_session_error}
@@ -16,19 +16,19 @@ use Rattle.mc_model.specs.synod.OneSlot.{Vote}
 use Rattle.mc_model.specs.synod.Packet.{Ask, Packet, Prepare, Promise, Propose, Refused, Slot, Tell, TopVote, Voted, slot_at}
 use Rattle.node_model.specs.Acceptor.{prepare_judged, propose_judged, told_of}
 use Rattle.node_model.specs.Answers.{answer_to}
-use Rattle.node_model.specs.Attempts.{closed_by, concluded, on_response}
+use Rattle.node_model.specs.Attempts.{closed_by, concluded}
 use Rattle.node_model.specs.Granted.{is_open_in}
 use Rattle.node_model.specs.Kept.{Held, Kept, message_at, saved, with_message}
 use Rattle.node_model.specs.Learner.{heard, makes_known}
 use Rattle.node_model.specs.Message.{Message, Round}
 use Rattle.node_model.specs.Outputs.{Stepped, leaves, sends}
-use Rattle.node_model.specs.Packets.{answer_told, heard_in, is_member, is_own_name, known_then, on_known, on_packet, on_promise, on_refused, on_tell, on_voted, promised_in, settled_for, settled_told, start_known, start_told, tell_held, tells_about, told_to, vote_concerns}
+use Rattle.node_model.specs.Packets.{answer_told, is_member, is_own_name, known_then, on_known, on_packet, on_promise, on_refused, on_tell, on_voted, promised_in, settled_for, settled_told, start_known, start_told, tell_held, tells_about, told_to, vote_concerns}
 use Rattle.node_model.specs.Proposer.{Prepared, Start, highest_round, is_free, is_own_ballot, prepared_at, promised_by, refused, runs_at, started, started_at}
 use Rattle.node_model.specs.Requests.{begun, held_at, id_of, settled_by, told_by, with_held}
 use Rattle.node_model.specs.Rules.{Fitting, first_rule}
 use Rattle.node_model.specs.Starts.{take_for}
 use Rattle.node_model.specs.Stepped.{restarted, saved_by, sender_of, stepped, stepped_down, stepped_up, stopped}
-use Rattle.node_model.specs.Ticks.{given_up, ids_of, on_arrival, on_tick, ruled, ruled_each, ticked, waits_too}
+use Rattle.node_model.specs.Ticks.{given_up, ids_of, ruled, ruled_each, ticked, waits_too}
 use Rattle.node_model.proofs.Places.{message_elsewhere, message_here}
 use Rattle.rest_laws.specs.Cooled.{AreShut, Suits}
 use Rattle.rest_laws.proofs.noting.Anew.{restarted_unheard}

@@ -1,6 +1,6 @@
 -- What is calm stays calm.
-use Rattle.std.proofs.Common.{◌≡◌, ◌⊎◌, ℕ, zero, suc, max, Bool, true, false, List, [], ◌∷◌, ◌++◌, filter, Option, Some, None, refl, sym, subst, ap, ◌∙◌, inl, inr}
-use Rattle.std.specs.Prelude.{◌==◌, ◌&&◌, nat_lt, nat_le, not, if◌then◌else◌}
+use Rattle.std.proofs.Common.{◌≡◌, ◌⊎◌, ℕ, zero, suc, max, Bool, true, false, List, [], ◌∷◌, Option, Some, None, refl, sym, subst, ap, ◌∙◌, inl, inr}
+use Rattle.std.specs.Prelude.{◌==◌, ◌&&◌, nat_lt, nat_le, if◌then◌else◌}
 use Rattle.std.proofs.lemmas.Bool.{eq-eqb, eqb-true}
 use Rattle.mc_model.specs.message.Decree.{Decree}
 use Rattle.mc_model.specs.node.Actor.{Cancel, Query, Request, Submit, id_in}
@@ -18,10 +18,10 @@ use Rattle.node_model.specs.Kept.{Held, Kept, message_at, saved, with_message}
 use Rattle.node_model.specs.Learner.{heard, is_shorter}
 use Rattle.node_model.specs.Message.{Message, Round, most_places}
 use Rattle.node_model.specs.Outputs.{Stepped, leaves, sends}
-use Rattle.node_model.specs.Packets.{heard_in, is_member, is_own_name, on_packet, on_promise, on_refused, on_tell, on_voted, promised_in, settled_told, start_told, tell_held, tells_about, told_to, vote_concerns}
+use Rattle.node_model.specs.Packets.{is_member, is_own_name, on_packet, on_promise, on_refused, on_tell, on_voted, promised_in, start_told, tell_held, tells_about, told_to, vote_concerns}
 use Rattle.node_model.specs.Proposer.{Start, is_own_ballot, refused, runs_at, started}
 use Rattle.node_model.specs.Requests.{asks, begun, held_at, id_of, settled_by, ticket_of, told_by, with_held}
-use Rattle.node_model.specs.Starts.{follow, is_ahead, take_for}
+use Rattle.node_model.specs.Starts.{follow, is_ahead}
 use Rattle.node_model.specs.Stepped.{saved_by, sender_of, stepped, stepped_down, stepped_up, stopped}
 use Rattle.node_model.specs.Ticks.{ids_of, on_arrival, ticked, waits_too}
 use Rattle.node_model.proofs.Places.{message_elsewhere, message_here}
@@ -29,7 +29,7 @@ use Rattle.rest_laws.specs.Cooled.{AreCalm, IsCalm, KeepsCalm, KeepsCalmPacket, 
 use Rattle.rest_laws.proofs.cooled.Packets.{higher_none, starts_no, unheard}
 use Rattle.rest_laws.proofs.cooled.Stepping.{calm_staying, each_cool, ticked_calm}
 use Rattle.rest_laws.proofs.forgetting.Packets.{found_in}
-use Rattle.rest_laws.proofs.forgetting.Staying.{Staying, answer_stays, arrival_stays, grant_stays, heard_stays, lowered_stays, one_of, promise_stays, refused_stays, response_stays, settled_as, settled_id, told_stays}
+use Rattle.rest_laws.proofs.forgetting.Staying.{Staying, answer_stays, arrival_stays, grant_stays, heard_stays, lowered_stays, one_of, promise_stays, response_stays, settled_as, settled_id, told_stays}
 
 -- ---- one message, with the same known and no round
 
@@ -278,15 +278,15 @@ module _ (cold : ℕ → Bool) where
   packet_calm setup k (Prepare sender slot ballot) suits keeps calm =
       one_of cold P s (is_member setup sender) _ (leaves k)
       (saved_calm k slot (prepare_judged setup.node slot ballot (k.records slot)).after
-          (λ is chain known. inl (promised_within setup.node slot ballot (k.records slot))) calm) calm
+      (λ is chain known. inl (promised_within setup.node slot ballot (k.records slot))) calm) calm
   packet_calm setup k (Promise sender slot ballot report) suits keeps calm =
       one_of cold P s (is_member setup sender) (on_promise setup k sender slot ballot report) (leaves k)
       (promise_calm setup k sender slot ballot report calm) calm
   packet_calm setup k (Propose sender slot vote) suits keeps calm =
       one_of cold P s (is_member setup sender) _ (leaves k)
       (saved_calm k slot (propose_judged setup.node slot vote (k.records slot)).after
-          (λ is chain known. voted_within chain setup.node slot vote k.records
-          (ap (λ (o : Option (List Decree)). is_ahead o slot.place) (sym known) ∙ keeps is)) calm) calm
+      (λ is chain known. voted_within chain setup.node slot vote k.records
+      (ap (λ (o : Option (List Decree)). is_ahead o slot.place) (sym known) ∙ keeps is)) calm) calm
   packet_calm setup k (Voted sender slot vote) suits keeps calm =
       one_of cold P s (is_member setup sender) (if vote_concerns setup k slot vote then on_voted setup k sender slot vote else leaves k) (leaves k)
       (one_of cold P s (vote_concerns setup k slot vote) (on_voted setup k sender slot vote) (leaves k)
@@ -343,7 +343,7 @@ module _ (cold : ℕ → Bool) where
   saved_by_calm setup k (Propose sender slot vote) keeps calm =
       saved_calm k slot (propose_judged setup.node slot vote (k.records slot)).after
       (λ is chain known. voted_within chain setup.node slot vote k.records
-          (ap (λ (o : Option (List Decree)). is_ahead o slot.place) (sym known) ∙ keeps is)) calm
+      (ap (λ (o : Option (List Decree)). is_ahead o slot.place) (sym known) ∙ keeps is)) calm
   saved_by_calm setup k (Promise sender slot ballot report) keeps calm = calm
   saved_by_calm setup k (Voted sender slot vote) keeps calm = calm
   saved_by_calm setup k (Refused sender slot ballot promised) keeps calm = calm

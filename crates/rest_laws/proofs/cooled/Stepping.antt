@@ -254,7 +254,7 @@ module _ (cold : ℕ → Bool) where
 
   -- ---- whatever comes
 
-  restarted_cool : (setup : Setup) (k : Kept) (lost : ℕ) → restarted setup (cool cold k) lost ≡ restarted setup k lost
+  pub restarted_cool : (setup : Setup) (k : Kept) (lost : ℕ) → restarted setup (cool cold k) lost ≡ restarted setup k lost
   restarted_cool setup k lost =
       λ i. record (restarted setup k lost) { messages = map (λ id. (id, unseen)) (recorded_in k.records (keys_cool k.messages i)) }
 

@@ -1,34 +1,33 @@
 -- What comes to a node of a cluster suits what is calm there.
-use Rattle.std.proofs.Common.{◌≡◌, ◌⊎◌, ℕ, ◌+◌, ◌*◌, ◌<◌, ◌≤◌, Bool, true, false, List, [], ◌∷◌, Option, Some, None, is_some, refl, sym, ap, subst, ◌∙◌, inl, inr, arith}
-use Rattle.std.specs.Prelude.{◌==◌, ◌&&◌, not, if◌then◌else◌}
+use Rattle.std.proofs.Common.{◌≡◌, ℕ, Bool, true, false, List, Option, Some, None, is_some, refl, ap, ◌∙◌, inl, inr, arith}
+use Rattle.std.specs.Prelude.{◌&&◌, not}
 use Rattle.std.proofs.lemmas.Bool.{eqb-true}
 use Rattle.mc_model.specs.message.Decree.{Decree}
-use Rattle.mc_model.specs.message.Ids.{id_of, incarnation_of, node_of, serial_of}
+use Rattle.mc_model.specs.message.Ids.{node_of}
 use Rattle.mc_model.specs.message.Submission.{Submission}
 use Rattle.mc_model.specs.node.Actor.{Cancel, Query, Request, Submit, id_in}
-use Rattle.mc_model.specs.node.Concerns.{WasGiven}
 use Rattle.mc_model.specs.node.Grant.{NotChosen}
 use Rattle.mc_model.specs.node.Input.{Arrival, Crash, Delivery, Grant, Input, Refusal, Response, Restart, Tick}
 use Rattle.mc_model.specs.node.Outcome.{Outcome}
 use Rattle.mc_model.specs.node.Setup.{Setup}
 use Rattle.mc_model.specs.cluster.Steps.{Cluster, setup_of}
 use Rattle.mc_model.specs.synod.Lists.{In}
-use Rattle.mc_model.specs.synod.OneSlot.{Vote, vote_at}
+use Rattle.mc_model.specs.synod.OneSlot.{vote_at}
 use Rattle.mc_model.specs.synod.Packet.{Ask, Name, Packet, Prepare, Promise, Propose, Refused, Slot, Tell, TopVote, Voted, slot_of}
 use Rattle.mc_parts.proofs.Majorities.{both}
 use Rattle.node_model.specs.Attempts.{grant_refusal, known_refusal}
 use Rattle.node_model.specs.Granted.{is_open_in}
-use Rattle.node_model.specs.Kept.{Held, Kept, message_at}
+use Rattle.node_model.specs.Kept.{Kept, message_at}
 use Rattle.node_model.specs.Learner.{is_shorter}
 use Rattle.node_model.specs.Message.{Message}
-use Rattle.node_model.specs.Packets.{is_own_name, tells_about}
-use Rattle.node_model.specs.Requests.{asks, held_at, id_of as asked_id}
+use Rattle.node_model.specs.Packets.{tells_about}
+use Rattle.node_model.specs.Requests.{asks, id_of as asked_id}
 use Rattle.node_model.specs.Starts.{follow, is_ahead}
 use Rattle.node_laws.specs.Clusters.{MayHappen, NodeInput, WasSentBefore, kept_reached}
-use Rattle.node_laws.specs.Runs.{IsFitToCome, IsNextMessage, IsOpen, MayCome}
+use Rattle.node_laws.specs.Runs.{IsFitToCome, IsNextMessage, MayCome}
 use Rattle.rest_laws.specs.Cooled.{AreCalm, AreShut, IsCalm, KeepsCalm, KeepsCalmPacket, Suits, SuitsPacket}
 use Rattle.rest_laws.proofs.runs.Over.{knows, proposal_within, told_within, vote_within}
-use Rattle.rest_laws.proofs.runs.Worlds.{node_at, node_stands}
+use Rattle.rest_laws.proofs.runs.Worlds.{node_stands}
 use Rattle.rest_laws.proofs.without.Resting.{no_attempt}
 
 -- ---- at whatever node: no attempt of it is granted or answered
@@ -46,9 +45,9 @@ calm_refusal setup k id calm = ap (known_refusal setup k (message_at k id)) calm
 pub granted_not_cold : (setup : Setup) (k : Kept) (cold : ℕ → Bool) (slot : Slot) → AreCalm cold k → MayCome setup k (Grant slot) → cold slot.id ≡ false
 granted_not_cold setup k cold slot calm may =
     not_cold cold slot.id (λ is.
-        let refused = calm_refusal setup k slot.id (calm slot.id is) in
-        let allowed = may.allowed in
-        absurd (cc))
+    let refused = calm_refusal setup k slot.id (calm slot.id is) in
+    let allowed = may.allowed in
+    absurd (cc))
 
 open_so : (m : Message) (place : ℕ) → m.granted place ≡ true → m.closed place ≡ None → is_open_in m place ≡ true
 open_so m place granted closed = λ i. granted i && not (is_some (closed i))
@@ -57,9 +56,9 @@ pub answered_not_cold : (setup : Setup) (k : Kept) (cold : ℕ → Bool) (slot :
     MayCome setup k (Response slot outcome) → cold slot.id ≡ false
 answered_not_cold setup k cold slot outcome shut may =
     not_cold cold slot.id (λ is.
-        let opened = open_so (message_at k slot.id) slot.place may.granted may.closed in
-        let closed = shut slot.id is slot.place in
-        absurd (cc))
+    let opened = open_so (message_at k slot.id) slot.place may.granted may.closed in
+    let closed = shut slot.id is slot.place in
+    absurd (cc))
 
 -- ---- in a cluster
 

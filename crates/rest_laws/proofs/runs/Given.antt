@@ -1,4 +1,4 @@
--- What nodes that drop messages give out keeps the promises of a cluster of nodes that do not.
+-- What nodes that forget messages give out keeps the promises of a cluster of nodes that do not.
 use Rattle.std.proofs.Common.{◌≡◌, ◌⊎◌, ℕ, List, ◌∷◌, ◌++◌, Some, refl, sym, subst, ap, ◌∙◌}
 use Rattle.mc_model.specs.cluster.Steps.{Cluster}
 use Rattle.mc_model.specs.message.Chain.{final_in}

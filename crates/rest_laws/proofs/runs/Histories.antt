@@ -11,9 +11,11 @@ use Rattle.node_laws.specs.Clusters.{CameEarlier, NodeInput, cluster_outputs, co
 use Rattle.node_model.specs.Outputs.{Stepped, nothing}
 use Rattle.rest_laws.specs.Behind.{GiveNothing, StandFor, StandsBehind, come_again}
 use Rattle.rest_laws.specs.Histories.{HasRun}
-use Rattle.rest_laws.specs.Remains.{Drops, Event, IsHistory, Starts, Takes, all_new, given_in, remains_after}
+use Rattle.rest_laws.specs.Remains.{Cools, Drops, Event, IsHistory, Starts, Takes, all_new, given_in, remains_after}
 use Rattle.rest_laws.proofs.runs.Starting.{starts}
-use Rattle.rest_laws.proofs.runs.Stepping.{drops, gives, goes}
+use Rattle.rest_laws.proofs.runs.Cooling.{cools}
+use Rattle.rest_laws.proofs.runs.Dropping.{drops}
+use Rattle.rest_laws.proofs.runs.Stepping.{gives, goes}
 use Rattle.rest_laws.proofs.noting.Anew.{restart_is}
 
 none_ascends : IsStrictlySortedBy nat_cmp []
@@ -26,6 +28,8 @@ begins cluster = record {
   kept_is = λ node. refl;
   packets_are = refl;
   rest = λ node. record { ascend = none_ascends; rest = λ id is. absurd (cc) };
+  calm = λ node id is. absurd (cc);
+  shut = λ node. ((λ id is place. absurd (cc)), (λ id is place. absurd (cc)));
 }
 
 pub behind : (cluster : Cluster) (events : List Event) → IsHistory cluster events → HasRun cluster events
@@ -35,8 +39,8 @@ behind cluster (Takes node input ∷ older) may =
     let stands = before.1.stands in (
       comes_to node input ∷ before.0,
       record {
-        stands = goes cluster before.0 (remains_after cluster older) node input stands may.0.4 may.0.0 may.0.1 may.0.2 may.0.3;
-        events_are = (before.0, refl, gives cluster before.0 (remains_after cluster older) node input stands may.0.4, before.1.events_are);
+        stands = goes cluster before.0 (remains_after cluster older) node input stands may.0.0 may.0.1 may.0.2 may.0.3 may.0.4;
+        events_are = (before.0, refl, gives cluster before.0 (remains_after cluster older) node input stands may.0.0 may.0.1 may.0.2 may.0.3 may.0.4, before.1.events_are);
       },
     )
 behind cluster (Drops node id ∷ older) may =
@@ -44,6 +48,14 @@ behind cluster (Drops node id ∷ older) may =
       before.0,
       record {
         stands = drops cluster before.0 (remains_after cluster older) node id before.1.stands may.0;
+        events_are = before.1.events_are;
+      },
+    )
+behind cluster (Cools node id ∷ older) may =
+    let before = behind cluster older may.1 in (
+      before.0,
+      record {
+        stands = cools cluster before.0 (remains_after cluster older) node id before.1.stands may.0.0 may.0.1;
         events_are = before.1.events_are;
       },
     )
@@ -76,6 +88,7 @@ given_same cluster inputs (Takes node input ∷ older) are =
     subst (λ (l : List NodeInput). SameBut (given_in cluster (Takes node input ∷ older)) (cluster_outputs cluster l)) (sym are.1)
     (inr (given_in cluster older, (λ i. are.2 i ∷ given_in cluster older), given_same cluster are.0 older are.3))
 given_same cluster inputs (Drops node id ∷ older) are = given_same cluster inputs older are
+given_same cluster inputs (Cools node id ∷ older) are = given_same cluster inputs older are
 given_same cluster inputs (Starts node lost ∷ older) are =
     let none : outputs_at cluster are.0 (comes_to node (Restart lost)) ≡ nothing =
     ap (λ (s : Stepped). s.outputs) (restart_is (setup_of cluster node) ((kept_reached cluster are.0).kept node) lost) in

@@ -9,7 +9,7 @@ use Rattle.mc_parts.proofs.Membership.{in_right, never_empty}
 use Rattle.node_laws.specs.Clusters.{LivesOn, NodeInput, comes_to}
 use Rattle.rest_laws.specs.Behind.{StandFor, come_again}
 use Rattle.rest_laws.specs.Histories.{LivesThrough}
-use Rattle.rest_laws.specs.Remains.{Drops, Event, IsHistory, MayBe, Starts, Takes, remains_after}
+use Rattle.rest_laws.specs.Remains.{Cools, Drops, Event, IsHistory, MayBe, Starts, Takes, remains_after}
 
 -- neither a packet nor a start anew: it comes by an event of its own
 abbrev pub IsOther : Input → Type 0
@@ -110,6 +110,12 @@ found cluster (Drops n id ∷ older) inputs are newer rest node input other is =
   where
     none : (m lost : ℕ) → Starts m lost ≡ Drops n id → ⊥
     none m lost same = absurd (cc)
+found cluster (Cools n id ∷ older) inputs are newer rest node input other is =
+    one_more cluster older newer newer rest node input (Cools n id) (λ m lost same. absurd (none m lost same)) (λ y among. among)
+    (found cluster older inputs are newer rest node input other is)
+  where
+    none : (m lost : ℕ) → Starts m lost ≡ Cools n id → ⊥
+    none m lost same = absurd (cc)
 found cluster (Starts n lost ∷ older) inputs are newer rest node input other is =
     let it = past n node input other are.1 (comes_to n (Restart lost) ∷ are.0) newer rest (sym are.2 ∙ is) in
     subst (λ (l : List NodeInput). IsFound cluster (Starts n lost ∷ older) l rest node input) (sym it.newer_is)
@@ -159,6 +165,15 @@ cut cluster (Takes n input ∷ newer) older inputs are =
     taken : (node lost : ℕ) → comes_to node (Restart lost) ≡ comes_to n input → Takes node (Restart lost) ≡ Takes n input
     taken node lost same = λ i. Takes (same i).node (same i).input
 cut cluster (Drops n id ∷ newer) older inputs are =
+    let it = cut cluster newer older inputs are in
+    record {
+      front = it.front;
+      back = it.back;
+      split = it.split;
+      stand = it.stand;
+      starts = λ node lost among. elim (it.starts node lost among) [ inl one ↦ inl (inr one) | inr other ↦ inr (inr other) ];
+    }
+cut cluster (Cools n id ∷ newer) older inputs are =
     let it = cut cluster newer older inputs are in
     record {
       front = it.front;

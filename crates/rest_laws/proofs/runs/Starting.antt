@@ -1,4 +1,4 @@
--- A start anew of a node that dropped messages: behind it their votes come again.
+-- A start anew of a node that forgot messages: behind it the votes of those that it dropped come again.
 use Rattle.std.proofs.Common.{◌≡◌, ℕ, ◌+◌, ◌<◌, Bool, true, false, List, [], ◌∷◌, ◌++◌, map, refl, sym, subst, ap, ◌∙◌, inl, inr}
 use Rattle.std.specs.Prelude.{◌==◌, ◌&&◌, ◌||◌, nat_lt, not, reverse, if◌then◌else◌}
 use Rattle.std.specs.Map.{keys_of}
@@ -20,6 +20,8 @@ use Rattle.node_model.specs.Outputs.{Stepped, nothing}
 use Rattle.node_model.specs.Stepped.{restarted, stepped}
 use Rattle.rest_laws.specs.AtRest.{AreAtRest, IsAtRest}
 use Rattle.rest_laws.specs.Behind.{GiveNothing, StandsBehind, StartsBehind, come_again}
+use Rattle.rest_laws.specs.Cooled.{AreCalm, AreShut, cool}
+use Rattle.rest_laws.proofs.cooled.Stepping.{restarted_cool}
 use Rattle.rest_laws.specs.Notes.{AreNotesOfGone, Note, come, votes_in, votes_of}
 use Rattle.rest_laws.specs.Remains.{Remains, Starts, remains_then}
 use Rattle.rest_laws.specs.Without.{without}
@@ -189,6 +191,16 @@ module _ (cluster : Cluster) (inputs : List NodeInput) (r : Remains) (node lost 
         });
       }
 
+  -- what is forgotten is forgotten by a start anew
+  anew : restarted own (r.kept node) lost ≡ without gone ((kept_reached cluster goes_on).kept node)
+  anew =
+      sym (restarted_cool (r.cold node) own (r.kept node) lost)
+      ∙ (ap (λ (x : Kept). restarted own x lost) (behind.kept_is node)
+      ∙ (restarted_cool (r.cold node) own (without gone k) lost ∙ sym leaves_so.kept))
+
+  abbrev none_cold : ℕ → Bool
+  none_cold id = false
+
   pub starts : StartsBehind cluster inputs node lost (remains_then cluster r (Starts node lost))
   starts = record {
     again = votes_in noted;
@@ -197,18 +209,35 @@ module _ (cluster : Cluster) (inputs : List NodeInput) (r : Remains) (node lost 
       kept_is = λ other. kept_of other (other == node) refl;
       packets_are = behind.packets_are ∙ sym led.goes.packets;
       rest = λ other. rest_of other (other == node) refl;
+      calm = λ other. calm_of other (other == node) refl;
+      shut = λ other. shut_of other (other == node) refl;
     };
     quiet = led.quiet;
   }
     where
       kept_of : (other : ℕ) (b : Bool) → (other == node) ≡ b →
-          (if b then restarted own (r.kept node) lost else r.kept other) ≡ without (r.gone other) ((kept_reached cluster goes_on).kept other)
+          cool (if b then none_cold else r.cold other) (if b then restarted own (r.kept node) lost else r.kept other)
+          ≡ cool (if b then none_cold else r.cold other) (without (r.gone other) ((kept_reached cluster goes_on).kept other))
       kept_of other true at =
-          subst (λ (n : ℕ). restarted own (r.kept node) lost ≡ without (r.gone n) ((kept_reached cluster goes_on).kept n)) (sym (eqb-true other node at))
-          (ap (λ (x : Kept). restarted own x lost) (behind.kept_is node) ∙ sym leaves_so.kept)
-      kept_of other false at = behind.kept_is other ∙ ap (without (r.gone other)) (sym (led.goes.others other at))
+          subst (λ (n : ℕ). cool none_cold (restarted own (r.kept node) lost) ≡ cool none_cold (without (r.gone n) ((kept_reached cluster goes_on).kept n)))
+          (sym (eqb-true other node at)) (ap (cool none_cold) anew)
+      kept_of other false at = behind.kept_is other ∙ ap (λ (x : Kept). cool (r.cold other) (without (r.gone other) x)) (sym (led.goes.others other at))
 
       rest_of : (other : ℕ) (b : Bool) → (other == node) ≡ b → AreAtRest (r.gone other) ((kept_reached cluster goes_on).kept other)
       rest_of other true at =
           subst (λ (n : ℕ). AreAtRest (r.gone n) ((kept_reached cluster goes_on).kept n)) (sym (eqb-true other node at)) leaves_so.rest
       rest_of other false at = subst (AreAtRest (r.gone other)) (sym (led.goes.others other at)) (behind.rest other)
+
+      calm_of : (other : ℕ) (b : Bool) → (other == node) ≡ b →
+          AreCalm (if b then none_cold else r.cold other) (if b then restarted own (r.kept node) lost else r.kept other)
+      calm_of other true at = λ id none. absurd (cc)
+      calm_of other false at = behind.calm other
+
+      shut_of : (other : ℕ) (b : Bool) → (other == node) ≡ b →
+          AreShut (if b then none_cold else r.cold other) (if b then restarted own (r.kept node) lost else r.kept other)
+          × AreShut (if b then none_cold else r.cold other) ((kept_reached cluster goes_on).kept other)
+      shut_of other true at = ((λ id none place. absurd (cc)), (λ id none place. absurd (cc)))
+      shut_of other false at = (
+        (behind.shut other).0,
+        subst (AreShut (r.cold other)) (sym (led.goes.others other at)) (behind.shut other).1,
+      )

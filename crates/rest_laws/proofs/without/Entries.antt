@@ -1,5 +1,5 @@
 -- What a node keeps without the messages that are gone, entry by entry.
-use Rattle.std.proofs.Common.{◌≡◌, ℕ, Bool, true, false, cond, List, [], ◌∷◌, filter, Option, Some, refl, sym, subst, ap, ◌∙◌, arith}
+use Rattle.std.proofs.Common.{◌≡◌, ℕ, Bool, true, false, cond, List, [], ◌∷◌, filter, Option, Some, None, refl, sym, subst, ap, ◌∙◌, arith}
 use Rattle.std.specs.Prelude.{not, if◌then◌else◌}
 use Rattle.std.specs.List.{AllByRecursion}
 use Rattle.std.specs.List.Sorted.{IsStrictlySortedBy}
@@ -14,7 +14,7 @@ use Rattle.std.proofs.lemmas.Bool.Decides.{nat_tests}
 use Rattle.mc_model.specs.synod.Acceptor.{Records, SlotRecord, blank, with_record}
 use Rattle.mc_model.specs.synod.Packet.{Slot, same_slot}
 use Rattle.mc_parts.proofs.Membership.{slots_same}
-use Rattle.node_model.specs.Kept.{Kept, with_message}
+use Rattle.node_model.specs.Kept.{Kept, message_at, with_message}
 use Rattle.node_model.specs.Message.{Message, unseen}
 use Rattle.node_model.proofs.Keys.{same_key}
 use Rattle.shelf.proofs.Entries.{still_ascends}
@@ -171,6 +171,25 @@ module _ (gone : ℕ → Bool) where
           lookup (is_at (nat_cmp id)) (cond (not b) (e ∷ left es) (left es)) ≡ lookup (is_at (nat_cmp id)) (e ∷ es)
       by true is rest = let skipped = other is (is_at (nat_cmp id) e.0) refl in rw skipped rest
       by false is rest = ap (λ (o : Option Message). cond (is_at (nat_cmp id) e.0) (Some e.1) o) rest
+
+  lookup_gone : (es : List (ℕ × Message)) (id : ℕ) → gone id ≡ true → lookup (is_at (nat_cmp id)) (left es) ≡ None
+  lookup_gone [] id was = refl
+  lookup_gone (e ∷ es) id was = by (gone e.0) refl (lookup_gone es id was)
+    where
+      other : gone e.0 ≡ false → (b : Bool) → is_at (nat_cmp id) e.0 ≡ b → b ≡ false
+      other is true at =
+          let same : id ≡ e.0 = same_key id e.0 at in
+          let also : gone e.0 ≡ true = subst (λ (i : ℕ). gone i ≡ true) same was in
+          absurd (cc)
+      other is false at = refl
+
+      by : (b : Bool) → gone e.0 ≡ b → lookup (is_at (nat_cmp id)) (left es) ≡ None →
+          lookup (is_at (nat_cmp id)) (cond (not b) (e ∷ left es) (left es)) ≡ None
+      by true is rest = rest
+      by false is rest = let skipped = other is (is_at (nat_cmp id) e.0) refl in rw skipped rest
+
+  pub message_gone : (k : Kept) (id : ℕ) → gone id ≡ true → message_at (without gone k) id ≡ unseen
+  message_gone k id was = ap (λ (o : Option Message). unwrap_or o unseen) (lookup_gone k.messages id was)
 
   -- ---- records
 

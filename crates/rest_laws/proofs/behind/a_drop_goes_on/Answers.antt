@@ -1,4 +1,4 @@
-use Rattle.rest_laws.proofs.runs.Stepping.{drops}
+use Rattle.rest_laws.proofs.runs.Dropping.{drops}
 use Rattle.rest_laws.proofs.behind.a_drop_goes_on.Goals as goal
 
 pub returns : goal.returns

@@ -1,5 +1,5 @@
 use Rattle.rest_laws.proofs.runs.Given.{cancelled, deletes}
-use Rattle.rest_laws.proofs.histories.nodes_that_drop_delete_what_is_cancelled.Goals as goal
+use Rattle.rest_laws.proofs.histories.nodes_that_forget_delete_what_is_cancelled.Goals as goal
 
 pub returns-clause-deleted : goal.returns-clause-deleted
 returns-clause-deleted c = deletes

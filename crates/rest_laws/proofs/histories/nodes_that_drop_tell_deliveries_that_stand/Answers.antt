@@ -1,5 +1,0 @@
-use Rattle.rest_laws.proofs.runs.Given.{stands}
-use Rattle.rest_laws.proofs.histories.nodes_that_drop_tell_deliveries_that_stand.Goals as goal
-
-pub returns : goal.returns
-returns c = stands
