@@ -11,6 +11,7 @@ use Rattle.mc_model.specs.synod.Lists.{In}
 use Rattle.mc_model.specs.synod.OneSlot.{Vote}
 use Rattle.mc_model.specs.synod.Packet.{Ask, Packet, Prepare, Promise, Propose, Refused, Slot, Tell, TopVote, Voted, same_slot, slot_at, top_at}
 use Rattle.mc_parts.proofs.Membership.{in_either, in_map, slots_same}
+use Rattle.node_laws.proofs.step.Busy.{same_id}
 use Rattle.rest_laws.proofs.without.Staying.{told_elsewhere}
 use Rattle.node_model.specs.Acceptor.{Judgement, prepare_judged, propose_judged, told_below, told_of, told_with}
 use Rattle.node_model.specs.Answers.{answer_to}
@@ -29,7 +30,7 @@ use Rattle.rest_laws.specs.Cooled.{AreCalm, IsCalm, KeepsCalm, KeepsCalmPacket, 
 use Rattle.rest_laws.proofs.cooled.Packets.{higher_none, starts_no, unheard}
 use Rattle.rest_laws.proofs.cooled.Stepping.{calm_staying, each_cool, ticked_calm}
 use Rattle.rest_laws.proofs.forgetting.Packets.{found_in}
-use Rattle.rest_laws.proofs.forgetting.Staying.{Staying, answer_stays, arrival_stays, grant_stays, heard_stays, lowered_stays, one_of, promise_stays, response_stays, settled_as, settled_id, told_stays}
+use Rattle.rest_laws.proofs.forgetting.Staying.{Staying, answer_stays, arrival_stays, grant_stays, heard_stays, lowered_stays, one_of, promise_stays, response_stays, settled_as, told_stays}
 
 -- ---- one message, with the same known and no round
 
@@ -266,7 +267,7 @@ module _ (cold : ℕ → Bool) where
       at false stays about =
           let known = (message_at k (id_of h)).known in
           told_stays cold P s setup k known (told_by h teller told) (settled_by setup.nodes known (told_by h teller told))
-          (ap cold (settled_id setup.nodes known (told_by h teller told)) ∙ stays) calm
+          (ap cold (same_id setup.nodes known (told_by h teller told)) ∙ stays) calm
 
       by : (b : Bool) → tells_about told (id_of h) ≡ b →
           P (if◌then◌else◌ {A = Stepped} b (told_to setup k (message_at k (id_of h)).known (told_by h teller told)) (leaves k)).kept

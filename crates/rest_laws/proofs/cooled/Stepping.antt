@@ -79,21 +79,7 @@ calm_rule setup k reach id calm =
     ap (known_rule setup k reach id) calm.known ∙ no_known setup k reach id calm.chain calm.over in
     λ i. option_or (fitting Take (t i)) (option_or (fitting Follow (f i)) (r i))
 
--- ---- it is calm by what is known of it, its round, its records and its requests
-
-pub calm_same : (k now : Kept) (id : ℕ) → told_of now.records id ≡ told_of k.records id → (message_at now id).known ≡ (message_at k id).known →
-    (message_at now id).round ≡ (message_at k id).round → ((h : Held) → In h now.held → id_of h ≡ id → asks h.waiting.request ≡ true) →
-    ((chain : List Decree) → (message_at k id).known ≡ Some chain → (h : Held) → In h now.held → id_of h ≡ id → follow (Some chain) h.top ≡ None) →
-    IsCalm k id → IsCalm now id
-calm_same k now id records known round asking told calm = record {
-  chain = calm.chain;
-  known = known ∙ calm.known;
-  over = calm.over;
-  round = round ∙ calm.round;
-  reached = ap (follow (Some calm.chain)) records ∙ calm.reached;
-  asking = asking;
-  told = told calm.chain calm.known;
-}
+-- ---- what is calm stays so, if nothing is done about it
 
 -- it is as calm once it is cool
 pub calm_cool : (cold : ℕ → Bool) (k : Kept) → AreCalm cold k → AreCalm cold (cool cold k)

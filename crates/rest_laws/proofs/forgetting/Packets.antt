@@ -21,8 +21,8 @@ use Rattle.node_model.specs.Packets.{answer_told, answered_then, heard_in, is_me
 use Rattle.node_model.specs.Proposer.{Prepared, Start, is_own_ballot, promised_by, refused, runs_at, started}
 use Rattle.node_model.specs.Requests.{held_at, id_of, settled_by, settles, ticket_of, told_by, with_held}
 use Rattle.node_model.specs.Starts.{announced, delete_for, delete_of, follow_told, tell_for, tell_of}
+use Rattle.node_laws.proofs.step.Busy.{same_id}
 use Rattle.rest_laws.specs.Without.{SparesPacket}
-use Rattle.rest_laws.proofs.forgetting.Staying.{settled_id}
 use Rattle.rest_laws.proofs.forgetting.Kept.{Forgetting, either, less, less_prepared, less_step, message_same, record_same, saved_same, started_same, told_same, with_same}
 
 pub found_in : (test : Held → Bool) (held : List Held) (h : Held) → find test held ≡ Some h → In h held
@@ -164,7 +164,7 @@ module _ (f : Forgetting) where
   tell_held_same setup k teller told (Some h) ordered asked =
       let stays : f.some_of (id_of h) ≡ false = asked h refl in
       let still : f.some_of (id_of (settled_by setup.nodes (message_at k (id_of h)).known (told_by h teller told))) ≡ false =
-      ap f.some_of (settled_id setup.nodes (message_at k (id_of h)).known (told_by h teller told)) ∙ stays in
+      ap f.some_of (same_id setup.nodes (message_at k (id_of h)).known (told_by h teller told)) ∙ stays in
       (λ i. if tells_about told (id_of h)
       then told_to setup (less f k) (message_same f k (id_of h) stays i).known (told_by h teller told)
       else leaves (less f k))

@@ -50,9 +50,6 @@ settled_as nodes known h = by (settles nodes known h)
     by true = record { id = refl; asking = refl; top = refl }
     by false = record { id = refl; asking = refl; top = refl }
 
-pub settled_id : (nodes : ℕ) (known : Option (List Decree)) (h : Held) → id_of (settled_by nodes known h) ≡ id_of h
-settled_id nodes known h = (settled_as nodes known h).id
-
 module _ (some_of : ℕ → Bool) (P : Kept → Type 0) (s : Staying some_of P) where
   -- of two steps, whichever is taken
   pub one_of : (b : Bool) (x y : Stepped) → P x.kept → P y.kept → P (if◌then◌else◌ {A = Stepped} b x y).kept

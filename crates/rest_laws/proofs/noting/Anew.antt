@@ -19,7 +19,7 @@ use Rattle.node_model.specs.Answers.{ends_told}
 use Rattle.node_model.specs.Granted.{is_open_in}
 use Rattle.node_model.specs.Kept.{Held, Kept, message_at}
 use Rattle.node_model.specs.Message.{Message, unseen}
-use Rattle.node_model.specs.Outputs.{Stepped, leaves}
+use Rattle.node_model.specs.Outputs.{Stepped, leaves, nothing}
 use Rattle.node_model.specs.Recorded.{has_record, is_blank, named_places, recorded_in}
 use Rattle.node_model.specs.Requests.{id_of}
 use Rattle.node_model.specs.Starts.{follow}
@@ -250,10 +250,17 @@ quiet_all setup k (n ∷ notes) quiet =
     (quiet_on setup k (come (votes_of n)) (come (votes_in notes)) (quiet_all setup k notes quiet.1)
     (subst (λ (x : Kept). AreNothing (kept_outputs setup x (come (votes_of n)))) (sym (heard_is setup k notes)) quiet.0))
 
-pub restart_is : (setup : Setup) (k : Kept) (lost : ℕ) → stepped setup k (Restart lost) ≡ leaves (restarted setup k lost)
-restart_is setup k lost = by k.up
+pub restart_keeps : (setup : Setup) (k : Kept) (lost : ℕ) → (stepped setup k (Restart lost)).kept ≡ restarted setup k lost
+restart_keeps setup k lost = by k.up
   where
-    by : (b : Bool) → (if b then leaves (restarted setup k lost) else leaves (restarted setup k lost)) ≡ leaves (restarted setup k lost)
+    by : (b : Bool) → (if◌then◌else◌ {A = Stepped} b (leaves (restarted setup k lost)) (leaves (restarted setup k lost))).kept ≡ restarted setup k lost
+    by true = refl
+    by false = refl
+
+pub restart_gives : (setup : Setup) (k : Kept) (lost : ℕ) → (stepped setup k (Restart lost)).outputs ≡ nothing
+restart_gives setup k lost = by k.up
+  where
+    by : (b : Bool) → (if◌then◌else◌ {A = Stepped} b (leaves (restarted setup k lost)) (leaves (restarted setup k lost))).outputs ≡ nothing
     by true = refl
     by false = refl
 
@@ -261,14 +268,13 @@ pub starts_without : (setup : Setup) (gone : ℕ → Bool) (k : Kept) (lost : �
     AreAllNoted setup gone (restarted setup k lost) notes → StartsWithout setup gone k lost notes
 starts_without setup gone k lost notes ascend are =
     let all = hear_all setup gone (restarted setup k lost) refl refl (restarted_ascends setup k lost ascend) (restarted_unheard setup k lost) notes are.each in
-    let restarts = restart_is setup k lost in
-    let first : kept_after setup k (Restart lost ∷ []) ≡ restarted setup k lost = ap (λ (s : Stepped). s.kept) restarts in
+    let first : kept_after setup k (Restart lost ∷ []) ≡ restarted setup k lost = restart_keeps setup k lost in
     let leads : kept_after setup k (anew lost notes) ≡ heard_all setup (restarted setup k lost) notes =
     kept_on setup k (come (votes_in notes)) (Restart lost ∷ [])
     ∙ (ap (λ (x : Kept). kept_after setup x (come (votes_in notes))) first ∙ heard_is setup (restarted setup k lost) notes) in
     record {
       kept = ap (without gone) leads ∙ (all.spared_is ∙ sym (restarted_same gone setup k lost));
-      quiet = quiet_on setup k (come (votes_in notes)) (Restart lost ∷ []) (ap (λ (s : Stepped). s.outputs) restarts, tt)
+      quiet = quiet_on setup k (come (votes_in notes)) (Restart lost ∷ []) (restart_gives setup k lost, tt)
           (subst (λ (x : Kept). AreNothing (kept_outputs setup x (come (votes_in notes)))) (sym first)
           (quiet_all setup (restarted setup k lost) notes all.quiet));
       rest = record {

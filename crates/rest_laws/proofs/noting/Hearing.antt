@@ -168,14 +168,15 @@ pub record Hears (setup : Setup) (k : Kept) (n : Note) (voters : List ℕ) (now 
   pub spares : (gone : ℕ → Bool) → gone n.slot.id ≡ true → without gone now ≡ without gone k
   pub ascends : Ascend (keys_of k.messages) → Ascend (keys_of now.messages)
 
-nobody_counts : (nodes : ℕ) → count nobody nodes ≡ 0
-nobody_counts zero = refl
-nobody_counts (suc nodes) = nobody_counts nodes
+-- of an empty set no majority is
+none_count : (set : ℕ → Bool) (nodes : ℕ) → ((node : ℕ) → set node ≡ false) → count set nodes ≡ 0
+none_count set zero empty = refl
+none_count set (suc nodes) empty = rw (empty (suc nodes)) (none_count set nodes empty)
 
-nobody_decides : (nodes : ℕ) → is_majority nodes nobody ≡ false
-nobody_decides nodes =
+none_decide : (set : ℕ → Bool) (nodes : ℕ) → ((node : ℕ) → set node ≡ false) → is_majority nodes set ≡ false
+none_decide set nodes empty =
     let none : nat_lt nodes 0 ≡ false = grind (arith, nat_tests) in
-    ap (λ (c : ℕ). nat_lt nodes (2 * c)) (nobody_counts nodes) ∙ none
+    ap (λ (c : ℕ). nat_lt nodes (2 * c)) (none_count set nodes empty) ∙ none
 
 begins : (setup : Setup) (k : Kept) (n : Note) → HasNoted setup k n → Hears setup k n [] k
 begins setup k n has = record {
@@ -186,7 +187,7 @@ begins setup k n has = record {
   records = refl;
   round = ap (λ (m : Message). m.round) has.unheard;
   votes = ap (λ (m : Message). m.votes n.vote) has.unheard;
-  known = inl (ap (λ (m : Message). m.known) has.unheard, nobody_decides setup.nodes);
+  known = inl (ap (λ (m : Message). m.known) has.unheard, none_decide nobody setup.nodes (λ node. refl));
   quiet = tt;
   granted = λ place. ap (λ (m : Message). m.granted place) has.unheard;
   others = λ other apart. refl;

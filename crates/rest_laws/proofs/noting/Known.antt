@@ -1,7 +1,7 @@
 -- A chain that a node knows was heard from a majority, in votes that were sent, and may be noted.
 use Rattle.std.proofs.Common.{◌≡◌, ℕ, zero, suc, ◌+◌, ◌<◌, ◌≤◌, Bool, true, false, List, [], ◌∷◌, Some, refl, sym, ap, subst, inl, inr, arith}
 use Rattle.std.specs.Prelude.{◌==◌, ◌&&◌, ◌||◌, nat_lt, not, if◌then◌else◌}
-use Rattle.std.proofs.lemmas.Bool.{eqb-true}
+use Rattle.std.proofs.lemmas.Bool.{eqb-true, or_left, or_right}
 use Rattle.std.proofs.lemmas.Bool.Decides.{nat_tests}
 use Rattle.mc_model.specs.message.Decree.{Attempt, Decree, Failed, Fate, Kind, Taken, Told}
 use Rattle.mc_model.specs.message.Ids.{incarnation_of, node_of, serial_of}
@@ -54,14 +54,6 @@ listed_pass test (suc nodes) node among = by (test (suc nodes)) refl among (λ l
     by true is (inr among) later = one_more (later among)
     by false is among later = one_more (later among)
 
-or_true : (a b : Bool) → b ≡ true → (a || b) ≡ true
-or_true true b is = refl
-or_true false b is = is
-
-or_left : (a b : Bool) → a ≡ true → (a || b) ≡ true
-or_left true b is = refl
-or_left false b is = absurd (cc)
-
 in_set : (test : ℕ → Bool) (nodes node : ℕ) → 1 ≤ node → node ≤ nodes → test node ≡ true → set_of (listed test nodes) node ≡ true
 in_set test zero node least most passes = absurd (omega (arith, least, most))
 in_set test (suc nodes) node least most passes = by (test (suc nodes)) refl (node == suc nodes) refl (in_set test nodes node least)
@@ -69,7 +61,7 @@ in_set test (suc nodes) node least most passes = by (test (suc nodes)) refl (nod
     by : (b : Bool) → test (suc nodes) ≡ b → (c : Bool) → (node == suc nodes) ≡ c →
         (node ≤ nodes → test node ≡ true → set_of (listed test nodes) node ≡ true) →
         set_of (if b then suc nodes ∷ listed test nodes else listed test nodes) node ≡ true
-    by true is true same rest = or_true (set_of (listed test nodes) node) (node == suc nodes) same
+    by true is true same rest = or_right (set_of (listed test nodes) node) (node == suc nodes) same
     by true is false differs rest =
         or_left (set_of (listed test nodes) node) (node == suc nodes) (rest (below differs) passes)
       where
@@ -116,10 +108,12 @@ not_told_yet node incarnation newest Told below = by (newest.author.node == node
 given_before : (a : Actor) (id incarnation serial : ℕ) → WasGiven a id → a.incarnation < incarnation →
     (nat_lt (incarnation_of id) incarnation || ((incarnation_of id == incarnation) && nat_lt (serial_of id) serial)) ≡ true
 given_before a id incarnation serial (inl before) later =
-    or_left (nat_lt (incarnation_of id) incarnation) _ (let less : incarnation_of id < incarnation = omega (arith, before, later) in grind (arith, nat_tests, less))
+    let less : incarnation_of id < incarnation = omega (arith, before, later) in
+    or_left (nat_lt (incarnation_of id) incarnation) _ (grind (arith, nat_tests, less))
 given_before a id incarnation serial (inr now) later =
     let same = now.0 in
-    or_left (nat_lt (incarnation_of id) incarnation) _ (let less : incarnation_of id < incarnation = omega (arith, same, later) in grind (arith, nat_tests, less))
+    let less : incarnation_of id < incarnation = omega (arith, same, later) in
+    or_left (nat_lt (incarnation_of id) incarnation) _ (grind (arith, nat_tests, less))
 
 concerning : (setup : Setup) (k : Kept) (a : Actor) (id : ℕ) (chain : List Decree) → a.incarnation < k.incarnation → (node_of id ≡ setup.node → WasGiven a id) →
     (ballot : ℕ) → vote_concerns setup k (slot_of id chain) (vote_at ballot chain) ≡ true

@@ -1,5 +1,6 @@
 -- Which chains start no round as they become known.
 use Rattle.std.proofs.Common.{◌≡◌, ℕ, true, List, [], ◌∷◌, Option, Some, None, refl, ◌∙◌}
+use Rattle.std.proofs.lemmas.Bool.{not-true}
 use Rattle.std.specs.Option.{option_or}
 use Rattle.mc_model.specs.message.Submission.{Submission}
 use Rattle.mc_model.specs.message.Decree.{Attempt, Author, Decree, Failed, Fate, Kind, Taken, Told}
@@ -10,7 +11,7 @@ use Rattle.node_model.specs.Kept.{Kept}
 use Rattle.node_model.specs.Packets.{start_known}
 use Rattle.node_model.specs.Starts.{delete_for, delete_of, tell_for, tell_of}
 use Rattle.rest_laws.specs.AtRest.{is_last, is_over}
-use Rattle.rest_laws.proofs.without.Resting.{decree, fate_stays, not_announced, told_stays, unasked_is}
+use Rattle.rest_laws.proofs.without.Resting.{decree, fate_stays, not_announced, told_stays}
 use Rattle.rest_laws.specs.Notes.{waits, StartsNoRound}
 
 -- ---- a chain that is over starts no round as it becomes known
@@ -28,7 +29,7 @@ starts_none_of setup k id author moment (Fate final error) older over = by (take
     by None is last = absurd (cc)
     by (Some taken) is last =
         let d = fate_stays setup k id k.held author moment final error older (taken_in (decree author moment (Fate final error) ∷ older)) in
-        let a = not_announced setup k taken author moment final error older (unasked_is (is_asked final taken) last) in
+        let a = not_announced setup k taken author moment final error older (not-true (is_asked final taken) last) in
         let t : tell_for setup k None (decree author moment (Fate final error) ∷ older) ≡ None =
         (λ i. tell_of setup k (decree author moment (Fate final error)) older (is i)) ∙ a in
         λ i. option_or (d i) (t i)

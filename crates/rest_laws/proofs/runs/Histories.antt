@@ -16,7 +16,7 @@ use Rattle.rest_laws.proofs.runs.Starting.{starts}
 use Rattle.rest_laws.proofs.runs.Cooling.{cools}
 use Rattle.rest_laws.proofs.runs.Dropping.{drops}
 use Rattle.rest_laws.proofs.runs.Stepping.{gives, goes}
-use Rattle.rest_laws.proofs.noting.Anew.{restart_is}
+use Rattle.rest_laws.proofs.noting.Anew.{restart_gives}
 
 none_ascends : IsStrictlySortedBy nat_cmp []
 unfolding IsStrictlySortedBy
@@ -91,7 +91,7 @@ given_same cluster inputs (Drops node id ∷ older) are = given_same cluster inp
 given_same cluster inputs (Cools node id ∷ older) are = given_same cluster inputs older are
 given_same cluster inputs (Starts node lost ∷ older) are =
     let none : outputs_at cluster are.0 (comes_to node (Restart lost)) ≡ nothing =
-    ap (λ (s : Stepped). s.outputs) (restart_is (setup_of cluster node) ((kept_reached cluster are.0).kept node) lost) in
+    restart_gives (setup_of cluster node) ((kept_reached cluster are.0).kept node) lost in
     subst (λ (l : List NodeInput). SameBut (given_in cluster older) (cluster_outputs cluster l)) (sym are.2)
     (quiet_same cluster node are.1 (comes_to node (Restart lost) ∷ are.0) (given_in cluster older) are.3
     (inl (none, given_same cluster are.0 older are.4)))

@@ -1,7 +1,7 @@
 -- In a cluster nothing goes on from a chain that is over.
 use Rattle.std.proofs.Common.{◌≡◌, ℕ, pred, ◌<◌, ◌≤◌, Bool, true, false, List, [], ◌∷◌, ◌++◌, length, Option, Some, None, sym, ap, subst, inl, inr, arith}
 use Rattle.std.specs.Prelude.{if◌then◌else◌}
-use Rattle.std.proofs.lemmas.Bool.{cases_lt}
+use Rattle.std.proofs.lemmas.Bool.{cases_lt, not-true}
 use Rattle.std.proofs.lemmas.Bool.Decides.{nat_tests}
 use Rattle.mc_model.specs.message.Chain.{MayExtend, taken_in}
 use Rattle.mc_model.specs.message.Decree.{Attempt, Author, Decree, Failed, Fate, Kind, Taken, Told}
@@ -27,7 +27,6 @@ use Rattle.node_model.proofs.Receipts.{asked_decides}
 use Rattle.node_laws.specs.Clusters.{MayHappen, NodeInput, kept_reached}
 use Rattle.rest_laws.specs.AtRest.{is_last, is_over}
 use Rattle.rest_laws.proofs.runs.Worlds.{actor_is, node_at, node_stands, together, world, world_holds}
-use Rattle.rest_laws.proofs.without.Resting.{unasked_is}
 
 -- ---- nothing may follow its newest decree
 
@@ -37,7 +36,7 @@ none_follows message home attempts old before (Taken taken) author moment next l
 none_follows message home attempts old before (Attempt number) author moment next last may = absurd (cc)
 none_follows message home attempts old before (Failed error) author moment next last may = absurd (cc)
 none_follows message home attempts old before (Fate final error) author moment Told last may =
-    let unasked = unasked_is (is_asked final message) last in
+    let unasked = not-true (is_asked final message) last in
     let asked = (asked_decides final message).1 may.asked in
     absurd (cc)
 none_follows message home attempts old before (Fate final error) author moment (Taken other) last may = may

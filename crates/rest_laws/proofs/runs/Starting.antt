@@ -25,7 +25,7 @@ use Rattle.rest_laws.proofs.cooled.Stepping.{restarted_cool}
 use Rattle.rest_laws.specs.Notes.{AreNotesOfGone, Note, come, votes_in, votes_of}
 use Rattle.rest_laws.specs.Remains.{Remains, Starts, remains_then}
 use Rattle.rest_laws.specs.Without.{without}
-use Rattle.rest_laws.proofs.noting.Anew.{hear_all, heard_all, restart_is, restarted_ascends, restarted_same, restarted_unheard}
+use Rattle.rest_laws.proofs.noting.Anew.{hear_all, heard_all, restart_gives, restart_keeps, restarted_ascends, restarted_same, restarted_unheard}
 use Rattle.rest_laws.proofs.noting.Gone.{all_noted, notes, votes_sent}
 use Rattle.rest_laws.proofs.noting.Hearing.{HasNoted, hears, votes_by}
 use Rattle.rest_laws.proofs.noting.Starts.{starts_none}
@@ -157,11 +157,10 @@ module _ (cluster : Cluster) (inputs : List NodeInput) (r : Remains) (node lost 
 
   first : GoesAlone cluster node inputs restarts (restarted own k lost)
   first =
-      let restart = restart_is own k lost in
       record {
         may = (is, tt, subst (λ (x : Kept). x.incarnation + lost < 9999) (behind.kept_is node) room, tt, behind.may);
-        kept = λ i. if self cluster node is inputs i then (restart i).kept else k;
-        packets = λ i. reverse (restart i).outputs.packets ++ (kept_reached cluster inputs).packets;
+        kept = λ i. if self cluster node is inputs i then restart_keeps own k lost i else k;
+        packets = λ i. reverse (restart_gives own k lost i).packets ++ (kept_reached cluster inputs).packets;
         others = λ other apart. λ i. if apart i then (stepped own k (Restart lost)).kept else (kept_reached cluster inputs).kept other;
       }
 

@@ -2,7 +2,7 @@
 use Rattle.std.proofs.Common.{◌≡◌, ℕ, Bool, true, false, List, [], ◌∷◌, Option, Some, None, refl, ap, ◌∙◌, inl, inr}
 use Rattle.std.specs.Prelude.{◌==◌, ◌&&◌, not, if◌then◌else◌}
 use Rattle.std.specs.Option.{option_or}
-use Rattle.std.proofs.lemmas.Bool.{eqb-true}
+use Rattle.std.proofs.lemmas.Bool.{eqb-true, not-true}
 use Rattle.mc_model.specs.message.Submission.{Submission}
 use Rattle.mc_model.specs.message.Decree.{Attempt, Author, Decree, Failed, Fate, Final, Kind, Taken, Told}
 use Rattle.mc_model.specs.message.Chain.{home_in, taken_in}
@@ -16,6 +16,7 @@ use Rattle.node_model.specs.Acceptor.{told_of}
 use Rattle.node_model.specs.Answers.{is_asked}
 use Rattle.node_model.specs.Attempts.{grant_refusal, known_refusal}
 use Rattle.node_model.specs.Kept.{Held, Kept, message_at}
+use Rattle.node_model.specs.Proposer.{Start}
 use Rattle.node_model.specs.Requests.{higher_top, id_of}
 use Rattle.node_model.specs.Rules.{first_rule, fitting, followed, if_so, known_rule, own_rule, shown_to, taken_for}
 use Rattle.node_model.specs.Starts.{announced, delete_of, follow, start_behind, take_for}
@@ -46,13 +47,9 @@ pub and_no : (b : Bool) → (b && false) ≡ false
 and_no true = refl
 and_no false = refl
 
-if_none : (b : Bool) → if_so b None ≡ None
-if_none true = refl
-if_none false = refl
-
-pub unasked_is : (b : Bool) → not b ≡ true → b ≡ false
-unasked_is true is = absurd (cc)
-unasked_is false is = refl
+none_so : (b : Bool) (start : Option Start) → start ≡ None → if_so b start ≡ None
+none_so true start none = none
+none_so false start none = refl
 
 abbrev pub decree : Author → ℕ → Kind → Decree
 decree author moment kind = record { author = author; moment = moment; kind = kind }
@@ -85,14 +82,14 @@ no_own setup k reach id author moment (Failed error) older taken over = absurd (
 no_own setup k reach id author moment (Fate final error) older None over = refl
 no_own setup k reach id author moment (Fate final error) older (Some taken) over =
     let d = fate_stays setup k id k.held author moment final error older (taken_in (decree author moment (Fate final error) ∷ older)) in
-    let t = if_none (may_begin reach id taken.target) in
-    let a = not_announced setup k taken author moment final error older (unasked_is (is_asked final taken) over) in
+    let t = none_so (may_begin reach id taken.target) None refl in
+    let a = not_announced setup k taken author moment final error older (not-true (is_asked final taken) over) in
     λ i. option_or (fitting Delete (d i)) (option_or (fitting Expire None) (option_or (fitting Undeliver None)
     (option_or (fitting Try (t i)) (fitting Announce (a i)))))
 no_own setup k reach id author moment Told older None over = refl
 no_own setup k reach id author moment Told older (Some taken) over =
     let d = told_stays setup k id k.held author moment older (taken_in (decree author moment Told ∷ older)) in
-    let t = if_none (may_begin reach id taken.target) in
+    let t = none_so (may_begin reach id taken.target) None refl in
     λ i. option_or (fitting Delete (d i)) (option_or (fitting Expire None) (option_or (fitting Undeliver None)
     (option_or (fitting Try (t i)) (fitting Announce None))))
 

@@ -27,10 +27,12 @@ use Rattle.node_model.specs.Stepped.{saved_by, sender_of, stepped_down, stepped_
 use Rattle.node_model.specs.Ticks.{is_late, ticked, without_round}
 use Rattle.node_model.proofs.Places.{message_elsewhere}
 use Rattle.shelf.proofs.Entries.{still_ascends}
+use Rattle.node_laws.proofs.invariant.Ticked.{keys_unrounded}
+use Rattle.node_laws.proofs.step.Busy.{same_id}
 use Rattle.rest_laws.specs.AtRest.{AreAtRest, IsAtRest}
 use Rattle.rest_laws.specs.Without.{Spares, SparesPacket}
 use Rattle.rest_laws.proofs.forgetting.Packets.{found_in}
-use Rattle.rest_laws.proofs.forgetting.Staying.{Staying, arrival_stays, grant_stays, heard_stays, lowered_stays, one_of, promise_stays, refused_stays, response_stays, settled_id, told_stays}
+use Rattle.rest_laws.proofs.forgetting.Staying.{Staying, arrival_stays, grant_stays, heard_stays, lowered_stays, one_of, promise_stays, refused_stays, response_stays, told_stays}
 
 -- ---- one message
 
@@ -107,10 +109,6 @@ rests_staying gone = record {
 
 -- ---- the clock rises, and no round runs
 
-pub keys_ticked : (es : List (ℕ × Message)) → keys_of (map without_round es) ≡ keys_of es
-keys_ticked [] = refl
-keys_ticked (e ∷ es) = ap (λ (ids : List ℕ). e.0 ∷ ids) (keys_ticked es)
-
 abbrev pub no_round : Message → Message
 no_round m = record m { round = None }
 
@@ -134,7 +132,7 @@ message_ticked k clock id =
 
 pub ticked_rests : (gone : ℕ → Bool) (k : Kept) (clock : ℕ) → AreAtRest gone k → AreAtRest gone (ticked k clock)
 ticked_rests gone k clock rests = record {
-  ascend = subst (IsStrictlySortedBy nat_cmp) (sym (keys_ticked k.messages)) rests.ascend;
+  ascend = subst (IsStrictlySortedBy nat_cmp) (sym (keys_unrounded k.messages)) rests.ascend;
   rest = λ id is.
       let old = rests.rest id is in
       let same = message_ticked k clock id in
@@ -164,7 +162,7 @@ module _ (gone : ℕ → Bool) where
   tell_stays setup k teller told (Some h) asked rests =
       let known = (message_at k (id_of h)).known in
       let new : Held = settled_by setup.nodes known (told_by h teller told) in
-      let stays : gone (id_of new) ≡ false = ap gone (settled_id setup.nodes known (told_by h teller told)) ∙ asked h refl in
+      let stays : gone (id_of new) ≡ false = ap gone (same_id setup.nodes known (told_by h teller told)) ∙ asked h refl in
       one_of gone P s (tells_about told (id_of h)) (told_to setup k known (told_by h teller told)) (leaves k)
       (told_stays gone P s setup k known (told_by h teller told) new stays rests) rests
 
