@@ -38,4 +38,5 @@ pub record IsDeliveredIn (id : ℕ) (chain : List Decree) (events : List Event) 
   pub attempted : attempt.kind ≡ Attempt number
   pub delivered : fate.kind ≡ Fate Delivered 0
   pub author : fate.author ≡ attempt.author
-  pub granted : TookInOneLife attempt.author.node (Grant (slot_of id (attempt ∷ older))) (Response (slot_of id (attempt ∷ older)) (Concluded Delivered 0)) events
+  pub granted : TookInOneLife attempt.author.node (Grant (slot_of id (attempt ∷ older)))
+      (Response (slot_of id (attempt ∷ older)) (Concluded Delivered 0)) events

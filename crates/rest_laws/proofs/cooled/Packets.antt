@@ -51,7 +51,8 @@ module _ (cold : ℕ → Bool) where
 
   -- ---- of a message that is cool
 
-  over_delete : (setup : Setup) (k : Kept) (id : ℕ) (held : List Held) (chain : List Decree) → is_over chain ≡ true → delete_for setup k id held (Some chain) ≡ None
+  over_delete : (setup : Setup) (k : Kept) (id : ℕ) (held : List Held) (chain : List Decree) → is_over chain ≡ true →
+      delete_for setup k id held (Some chain) ≡ None
   over_delete setup k id held [] over = absurd (cc)
   over_delete setup k id held (newest ∷ older) over = by newest.kind over
     where
@@ -84,7 +85,8 @@ module _ (cold : ℕ → Bool) where
   cold_told setup k chain told new over reached =
       let there = starts_no setup (cool cold k) chain told new over reached in
       let here = starts_no setup k chain told new over reached in
-      (λ i. answer_told (started setup (record (cool cold k) { held = with_held k.held new }) (id_of new) (there i)) new (answer_to setup.nodes (Some chain) new))
+      (λ i. answer_told (started setup (record (cool cold k) { held = with_held k.held new }) (id_of new) (there i)) new
+      (answer_to setup.nodes (Some chain) new))
       ∙ (answer_same c (record { kept = record k { held = with_held k.held new }; packets = [] }) new (answer_to setup.nodes (Some chain) new)
       ∙ (λ i. cool_step cold
       (answer_told (started setup (record k { held = with_held k.held new }) (id_of new) (sym here i)) new (answer_to setup.nodes (Some chain) new))))
@@ -145,7 +147,8 @@ module _ (cold : ℕ → Bool) where
       on_promise setup (cool cold k) sender slot ballot report ≡ cool_step cold (on_promise setup k sender slot ballot report)
   promise_any setup k sender slot ballot report calm = by (cold slot.id) refl
     where
-      by : (b : Bool) → cold slot.id ≡ b → on_promise setup (cool cold k) sender slot ballot report ≡ cool_step cold (on_promise setup k sender slot ballot report)
+      by : (b : Bool) → cold slot.id ≡ b →
+          on_promise setup (cool cold k) sender slot ballot report ≡ cool_step cold (on_promise setup k sender slot ballot report)
       by false is = promise_same c setup k sender slot ballot report tt is
       by true is =
           let here = (calm slot.id is).round in
@@ -159,14 +162,16 @@ module _ (cold : ℕ → Bool) where
     where
       by : (b : Bool) → cold slot.id ≡ b →
           cool_step cold (on_refused setup (cool cold k) slot ballot promised) ≡ cool_step cold (on_refused setup k slot ballot promised)
-      by false is = alike (on_refused setup (cool cold k) slot ballot promised) (on_refused setup k slot ballot promised) (refused_same c setup k slot ballot promised tt is)
+      by false is = alike (on_refused setup (cool cold k) slot ballot promised) (on_refused setup k slot ballot promised)
+          (refused_same c setup k slot ballot promised tt is)
       by true is =
           let same : cooled (refused (message_at (cool cold k) slot.id) slot ballot promised) ≡ cooled (refused (message_at k slot.id) slot ballot promised) =
           ap (λ (m : Message). cooled (refused m slot ballot promised)) (message_cooled cold k slot.id is) in
           alike_if (is_own_ballot setup k ballot)
           (leaves (with_message (cool cold k) slot.id (refused (message_at (cool cold k) slot.id) slot ballot promised))) (leaves (cool cold k))
           (leaves (with_message k slot.id (refused (message_at k slot.id) slot ballot promised))) (leaves k)
-          (λ i. leaves (with_any cold k slot.id (refused (message_at (cool cold k) slot.id) slot ballot promised) (refused (message_at k slot.id) slot ballot promised)
+          (λ i. leaves (with_any cold k slot.id (refused (message_at (cool cold k) slot.id) slot ballot promised)
+          (refused (message_at k slot.id) slot ballot promised)
           (cooled_same slot.id _ _ is same) i))
           (left k)
 

@@ -75,7 +75,8 @@ module _ (cold : ℕ → Bool) where
       let slot : Slot = slot_at id start.place in
       let number : ℕ = suc (highest_round k.records (message_at k id) slot) in
       one_prepared (is_free k slot) (prepared_at setup k slot number start.chain) (record { kept = k; packets = [] })
-      (with_shut k id (started_at (message_at k id) slot number (ballot_of number k.incarnation setup.node) start.chain) (λ is place. shut id is place) shut) shut
+      (with_shut k id (started_at (message_at k id) slot number (ballot_of number k.incarnation setup.node) start.chain)
+      (λ is place. shut id is place) shut) shut
 
   given_shut : (rule : Rule) (k : Kept) (id place : ℕ) → P k → P (given_up rule k id place)
   given_shut Take k id place shut = shut

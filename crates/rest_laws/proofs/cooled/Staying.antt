@@ -72,10 +72,11 @@ record_still chain records slot new fits id (suc place) before =
   where
     by : (b : Bool) → same_slot (slot_at id place) slot ≡ b →
         (follow (Some chain) (told_below records id place) ≡ None → follow (Some chain) (told_below (with_record records slot new) id place) ≡ None) →
-        follow (Some chain) (told_with (slot_at id place) (if b then new else records (slot_at id place)).vote (told_below (with_record records slot new) id place))
-        ≡ None
+        follow (Some chain) (told_with (slot_at id place) (if b then new else records (slot_at id place)).vote
+        (told_below (with_record records slot new) id place)) ≡ None
     by false differs later =
-        lower_still chain id place (records (slot_at id place)).vote (told_below records id place) (told_below (with_record records slot new) id place) later before
+        lower_still chain id place (records (slot_at id place)).vote (told_below records id place) (told_below (with_record records slot new) id place) later
+        before
     by true is later = elim fits [
       | inl same ↦
           ap (λ (o : Option Vote). follow (Some chain) (told_with (slot_at id place) o (told_below (with_record records slot new) id place)))
@@ -186,7 +187,8 @@ module _ (cold : ℕ → Bool) where
   refused_calm : (setup : Setup) (k : Kept) (slot : Slot) (ballot promised : ℕ) → P k → P (on_refused setup k slot ballot promised).kept
   refused_calm setup k slot ballot promised calm =
       one_of cold P s (is_own_ballot setup k ballot) (leaves (with_message k slot.id (refused (message_at k slot.id) slot ballot promised))) (leaves k)
-      (with_calm k slot.id (refused (message_at k slot.id) slot ballot promised) refl (λ is. ends (message_at k slot.id).round (calm slot.id is).round) calm) calm
+      (with_calm k slot.id (refused (message_at k slot.id) slot ballot promised) refl (λ is. ends (message_at k slot.id).round (calm slot.id is).round)
+      calm) calm
     where
       ends : (round : Option Round) → round ≡ None → (if runs_at round slot ballot && nat_lt ballot promised then None else round) ≡ None
       ends None none = refl
@@ -227,7 +229,8 @@ module _ (cold : ℕ → Bool) where
       same_chain one other first second = let both : Some one ≡ Some other = sym first ∙ second in cc
 
       waits_calm : (new : Held) → id_of new ≡ id_of h → asks new.waiting.request ≡ true →
-          ((chain : List Decree) → (message_at k (id_of h)).known ≡ Some chain → follow (Some chain) new.top ≡ None) → P (record k { held = with_held k.held new })
+          ((chain : List Decree) → (message_at k (id_of h)).known ≡ Some chain → follow (Some chain) new.top ≡ None) →
+          P (record k { held = with_held k.held new })
       waits_calm new about asking top other also =
           let old = calm other also in
           record {

@@ -105,7 +105,8 @@ module _ (f : Forgetting) where
       sends (saved (less f k) slot after) (answer ∷ []) [] [] ≡ less_step f (sends (saved k slot after) (answer ∷ []) [] [])
   judged_same setup k slot answer after ordered stays = λ i. sends (saved_same f k slot after ordered stays i) (answer ∷ []) [] []
 
-  pub promise_same : (setup : Setup) (k : Kept) (sender : ℕ) (slot : Slot) (ballot : ℕ) (report : Option Vote) → f.Ordered k.messages → f.some_of slot.id ≡ false →
+  pub promise_same : (setup : Setup) (k : Kept) (sender : ℕ) (slot : Slot) (ballot : ℕ) (report : Option Vote) → f.Ordered k.messages →
+      f.some_of slot.id ≡ false →
       on_promise setup (less f k) sender slot ballot report ≡ less_step f (on_promise setup k sender slot ballot report)
   promise_same setup k sender slot ballot report ordered stays =
       (λ i. promised_in setup (less f k) (message_same f k slot.id stays i) (message_same f k slot.id stays i).round sender slot ballot report)

@@ -47,7 +47,8 @@ module _ (gone : ℕ → Bool) where
   recorded_left records [] = refl
   recorded_left records (id ∷ ids) = by (gone id) refl (recorded_left records ids)
     where
-      of : (c : Bool) → gone id ≡ true → left_ids gone (cond c (id ∷ recorded_in records ids) (recorded_in records ids)) ≡ left_ids gone (recorded_in records ids)
+      of : (c : Bool) → gone id ≡ true →
+          left_ids gone (cond c (id ∷ recorded_in records ids) (recorded_in records ids)) ≡ left_ids gone (recorded_in records ids)
       of true is = ap (λ (b : Bool). cond (not b) (id ∷ left_ids gone (recorded_in records ids)) (left_ids gone (recorded_in records ids))) is
       of false is = refl
 

@@ -29,7 +29,8 @@ use Rattle.rest_laws.proofs.noting.Known.{has_note, heard_sent}
 use Rattle.rest_laws.proofs.without.Entries.{AreAbove, Ascend}
 
 -- a message of which something is known is kept
-known_kept : (es : List (ℕ × Message)) (id : ℕ) (chain : List Decree) → (unwrap_or (lookup (is_at (nat_cmp id)) es) unseen).known ≡ Some chain → In id (keys_of es)
+known_kept : (es : List (ℕ × Message)) (id : ℕ) (chain : List Decree) → (unwrap_or (lookup (is_at (nat_cmp id)) es) unseen).known ≡ Some chain →
+    In id (keys_of es)
 known_kept [] id chain known = absurd (cc)
 known_kept (e ∷ es) id chain known = by (is_at (nat_cmp id) e.0) refl known (known_kept es id chain)
   where

@@ -143,7 +143,8 @@ module _ (cluster : Cluster) (inputs : List NodeInput) (may : MayHappen cluster 
       by (newest ∷ older) was = not_told_yet node incarnation newest newest.kind (λ same.
           let here : newest.author.incarnation ≤ ((world cluster inputs may).actors node).incarnation =
           subst (λ (n : ℕ). newest.author.incarnation ≤ ((world cluster inputs may).actors n).incarnation) same was in
-          let now : ((world cluster inputs may).actors node).incarnation ≡ a.incarnation = ap (λ (x : Actor). x.incarnation) (actor_is cluster inputs may node) in
+          let now : ((world cluster inputs may).actors node).incarnation ≡ a.incarnation =
+          ap (λ (x : Actor). x.incarnation) (actor_is cluster inputs may node) in
           omega (arith, here, now, later))
 
   noted : Knows cluster.nodes a.received id chain → HasNote setup k id chain
@@ -157,7 +158,8 @@ module _ (cluster : Cluster) (inputs : List NodeInput) (may : MayHappen cluster 
       let sent = holds.keeps.received node (Voted some.node (slot_of id chain) vote)
       (subst (λ (x : Actor). In (Voted some.node (slot_of id chain) vote) x.received) (sym (actor_is cluster inputs may node)) some.one) in
       let proposed = holds.keeps.proposed (cast some.node (slot_of id chain) vote) (holds.keeps.fits (Voted some.node (slot_of id chain) vote) sent) in
-      let was = authored cluster.nodes cluster.serials (acts_in (together cluster inputs may).steps) (run cluster inputs may) (slot_of id chain) vote proposed in
+      let was = authored cluster.nodes cluster.serials (acts_in (together cluster inputs may).steps) (run cluster inputs may)
+      (slot_of id chain) vote proposed in
       record {
         note = record { slot = slot_of id chain; vote = vote; voters = listed test cluster.nodes };
         slot_is = refl;

@@ -90,7 +90,8 @@ module _ (cold : ℕ → Bool) (id : ℕ) where
       also false = refl
 
       by : (b : Bool) → (e.0 == id) ≡ b → cool_all (but_for cold id) (left one es) ≡ left one (cool_all cold es) →
-          cool_all (but_for cold id) (cond (not b) (e ∷ left one es) (left one es)) ≡ cond (not b) (cool_entry cold e ∷ left one (cool_all cold es)) (left one (cool_all cold es))
+          cool_all (but_for cold id) (cond (not b) (e ∷ left one es) (left one es))
+          ≡ cond (not b) (cool_entry cold e ∷ left one (cool_all cold es)) (left one (cool_all cold es))
       by true same rest = rest
       by false differs rest =
           λ i. (e.0, cooled_if (((λ j. cold e.0 && not (differs j)) ∙ also (cold e.0)) i) e.1) ∷ rest i

@@ -94,7 +94,7 @@ taken_by id chain by events late early = record {
     newer = late.before;
     middle = early.before;
     older = early.older;
-    split = late.split ∙ (λ i. late.before ++ Takes by.attempt.author.node (Response (slot_of id (by.attempt ∷ by.older)) (Concluded Delivered 0)) ∷ early.split i);
+    split = late.split ∙ (λ i. late.before ++ Takes by.attempt.author.node (Response (slot_by id chain _ by) (Concluded Delivered 0)) ∷ early.split i);
     lives = λ lost starts. by.granted.lives lost (early.starts by.attempt.author.node lost starts);
   };
 }

@@ -8,7 +8,7 @@ use Rattle.mc_model.specs.node.Outputs.{Outputs, Receipt}
 use Rattle.mc_model.specs.synod.Lists.{In}
 use Rattle.mc_model.specs.synod.Packet.{Packet}
 use Rattle.node_laws.specs.Clusters.{CameEarlier, NodeInput, cluster_outputs, comes_to, kept_reached, outputs_at, receipts_given}
-use Rattle.node_model.specs.Outputs.{Stepped, nothing}
+use Rattle.node_model.specs.Outputs.{nothing}
 use Rattle.rest_laws.specs.Behind.{GiveNothing, StandFor, StandsBehind, come_again}
 use Rattle.rest_laws.specs.Histories.{HasRun}
 use Rattle.rest_laws.specs.Remains.{Cools, Drops, Event, IsHistory, Starts, Takes, all_new, given_in, remains_after}
@@ -40,7 +40,12 @@ behind cluster (Takes node input ∷ older) may =
       comes_to node input ∷ before.0,
       record {
         stands = goes cluster before.0 (remains_after cluster older) node input stands may.0.0 may.0.1 may.0.2 may.0.3 may.0.4;
-        events_are = (before.0, refl, gives cluster before.0 (remains_after cluster older) node input stands may.0.0 may.0.1 may.0.2 may.0.3 may.0.4, before.1.events_are);
+        events_are = (
+          before.0,
+          refl,
+          gives cluster before.0 (remains_after cluster older) node input stands may.0.0 may.0.1 may.0.2 may.0.3 may.0.4,
+          before.1.events_are,
+        );
       },
     )
 behind cluster (Drops node id ∷ older) may =

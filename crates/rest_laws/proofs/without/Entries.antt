@@ -89,7 +89,8 @@ module _ (gone : ℕ → Bool) where
   left_keys [] = refl
   left_keys (e ∷ es) = by (not (gone e.0)) (left_keys es)
     where
-      by : (b : Bool) → keys_of (left es) ≡ left_ids (keys_of es) → keys_of (cond b (e ∷ left es) (left es)) ≡ cond b (e.0 ∷ left_ids (keys_of es)) (left_ids (keys_of es))
+      by : (b : Bool) → keys_of (left es) ≡ left_ids (keys_of es) →
+          keys_of (cond b (e ∷ left es) (left es)) ≡ cond b (e.0 ∷ left_ids (keys_of es)) (left_ids (keys_of es))
       by true rest = ap (λ (ids : List ℕ). e.0 ∷ ids) rest
       by false rest = rest
 

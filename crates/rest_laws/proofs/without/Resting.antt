@@ -1,6 +1,6 @@
 -- Nothing is due of a message at rest.
 use Rattle.std.proofs.Common.{◌≡◌, ℕ, Bool, true, false, List, [], ◌∷◌, Option, Some, None, refl, ap, ◌∙◌, inl, inr}
-use Rattle.std.specs.Prelude.{◌==◌, ◌&&◌, not, if◌then◌else◌}
+use Rattle.std.specs.Prelude.{◌==◌, ◌&&◌, if◌then◌else◌}
 use Rattle.std.specs.Option.{option_or}
 use Rattle.std.proofs.lemmas.Bool.{eqb-true, not-true}
 use Rattle.mc_model.specs.message.Submission.{Submission}

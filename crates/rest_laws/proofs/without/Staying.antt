@@ -168,7 +168,8 @@ module _ (gone : ℕ → Bool) where
 
   packet_stays : (setup : Setup) (k : Kept) (packet : Packet) → SparesPacket gone packet → P k → P (on_packet setup k packet).kept
   packet_stays setup k (Prepare sender slot ballot) stays rests =
-      one_of gone P s (is_member setup sender) _ (leaves k) (s.record_of k slot (prepare_judged setup.node slot ballot (k.records slot)).after stays rests) rests
+      one_of gone P s (is_member setup sender) _ (leaves k)
+      (s.record_of k slot (prepare_judged setup.node slot ballot (k.records slot)).after stays rests) rests
   packet_stays setup k (Promise sender slot ballot report) stays rests =
       one_of gone P s (is_member setup sender) (on_promise setup k sender slot ballot report) (leaves k)
       (promise_stays gone P s setup k (message_at k slot.id) (message_at k slot.id).round sender slot ballot report stays rests) rests
