@@ -1,0 +1,5 @@
+pub mod Entries
+pub mod Packets
+pub mod Stepping
+pub mod Staying
+pub mod Shut

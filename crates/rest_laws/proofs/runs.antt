@@ -1,0 +1,11 @@
+pub mod Worlds
+pub mod Over
+pub mod Calm
+pub mod Alike
+pub mod Stepping
+pub mod Dropping
+pub mod Cooling
+pub mod Starting
+pub mod Histories
+pub mod Splits
+pub mod Given

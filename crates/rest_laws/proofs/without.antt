@@ -1,0 +1,4 @@
+pub mod Entries
+pub mod Resting
+pub mod Staying
+pub mod Stepping

@@ -1,0 +1,10 @@
+pub mod AtRest
+pub mod Without
+pub mod Notes
+pub mod FirstMessage
+pub mod Cooled
+pub mod Miniature
+pub mod AnswersAgain
+pub mod Remains
+pub mod Behind
+pub mod Histories
