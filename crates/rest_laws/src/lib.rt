@@ -10,7 +10,7 @@ mod rest;
 
 pub use behind::{
     a_cooling_goes_on, a_drop_goes_on, a_run_stands_behind, a_start_anew_goes_on,
-    a_step_of_a_node_that_forgot_goes_on,
+    a_step_of_a_node_that_forgot_goes_on, each_run_is_a_history,
 };
 pub use cool::{
     what_comes_suits_what_is_calm, what_is_calm_stays_calm,
@@ -28,5 +28,6 @@ pub use notes::{
     what_is_known_may_be_noted, what_was_heard_was_sent, what_was_noted_is_known_again,
 };
 pub use rest::{
-    a_node_does_without_what_is_at_rest, a_run_does_without_what_is_at_rest, nothing_is_due_at_rest,
+    a_delivered_message_is_at_rest, a_node_does_without_what_is_at_rest,
+    a_run_does_without_what_is_at_rest, nothing_is_due_at_rest,
 };
