@@ -33,6 +33,7 @@ set_of (node ∷ others) = with_node (set_of others) node
 
 -- ---- the votes of a note come again
 
+-- as packets
 abbrev pub votes_of : Note → List Packet
 votes_of n = map (λ voter. Voted voter n.slot n.vote) n.voters
 
@@ -94,6 +95,7 @@ pub record HasNote (setup : Setup) (k : Kept) (id : ℕ) (chain : List Decree) :
 abbrev pub votes_in : List Note → List Packet
 votes_in notes = flat_map votes_of notes
 
+-- the node starts anew, and then they come
 abbrev pub anew : ℕ → List Note → List Input
 anew lost notes = come (votes_in notes) ++ Restart lost ∷ []
 
