@@ -1,5 +1,5 @@
 -- A note is what made a node know a chain: a vote, and who told of it. Once it has started anew these votes come again (own).
-use Rattle.std.specs.Prelude.{◌≡◌, ℕ, Bool, true, false, List, [], ◌∷◌, ◌++◌, flat_map, map, Some, None}
+use Rattle.std.specs.Prelude.{◌≡◌, ℕ, Bool, ◌==◌, true, false, List, [], ◌∷◌, ◌++◌, flat_map, map, Some, None}
 use Rattle.mc_model.specs.message.Decree.{Attempt, Decree, Failed, Fate, Kind, Taken, Told}
 use Rattle.mc_model.specs.node.Input.{Delivery, Input, Restart}
 use Rattle.mc_model.specs.node.Outputs.{Outputs}
@@ -9,7 +9,7 @@ use Rattle.mc_model.specs.synod.OneSlot.{Vote}
 use Rattle.mc_model.specs.synod.Packet.{Packet, Slot, Voted, slot_of}
 use Rattle.node_model.specs.Acceptor.{told_of}
 use Rattle.node_model.specs.Answers.{ends_told}
-use Rattle.node_model.specs.Kept.{Kept, message_at}
+use Rattle.node_model.specs.Kept.{Kept, message_at, with_message}
 use Rattle.node_model.specs.Message.{unseen}
 use Rattle.node_model.specs.Outputs.{nothing}
 use Rattle.node_model.specs.Packets.{is_member, start_known, vote_concerns}
@@ -18,6 +18,7 @@ use Rattle.node_model.specs.Starts.{follow}
 use Rattle.node_model.specs.Stepped.{restarted}
 use Rattle.node_laws.specs.Runs.{kept_after, kept_outputs}
 use Rattle.rest_laws.specs.AtRest.{AreAtRest, is_over}
+use Rattle.rest_laws.specs.Cooled.{cool}
 use Rattle.rest_laws.specs.Without.{without}
 
 -- those who told of the vote stand with the last one first
@@ -72,12 +73,15 @@ pub record IsFresh (k : Kept) (id : ℕ) : Type 0 where
   pub held : k.held ≡ []
   pub unheard : message_at k id ≡ unseen
 
--- Once the votes of a note came again the node knows their chain, no round runs, its records are as they were, and nothing went out.
+-- Once the votes of a note came again the node knows their chain, no round runs, its records are as they were, and nothing went out. But for what it heard of
+-- that message it keeps what it kept, with the chain put in.
 pub record KnowsAgain (setup : Setup) (k : Kept) (n : Note) : Type 0 where
   pub known : (message_at (kept_after setup k (come (votes_of n))) n.slot.id).known ≡ Some n.vote.chain
   pub round : (message_at (kept_after setup k (come (votes_of n))) n.slot.id).round ≡ None
   pub records : (kept_after setup k (come (votes_of n))).records ≡ k.records
   pub quiet : AreNothing (kept_outputs setup k (come (votes_of n)))
+  pub kept : cool (λ other. other == n.slot.id) (kept_after setup k (come (votes_of n)))
+      ≡ cool (λ other. other == n.slot.id) (with_message k n.slot.id (record unseen { known = Some n.vote.chain }))
 
 -- ---- what a node may note
 

@@ -38,7 +38,7 @@ module _ (cold : ℕ → Bool) where
       by Greater order rest = ap (λ (l : List (ℕ × Message)). cool_entry e ∷ l) rest
 
   -- what is kept of a message then
-  with_cool : (k : Kept) (id : ℕ) (m : Message) → with_message (cool cold k) id (cooled_if (cold id) m) ≡ cool cold (with_message k id m)
+  pub with_cool : (k : Kept) (id : ℕ) (m : Message) → with_message (cool cold k) id (cooled_if (cold id) m) ≡ cool cold (with_message k id m)
   with_cool k id m = λ i. record k { messages = sym (insert_cool k.messages id m) i }
 
   lookup_cool : (es : List (ℕ × Message)) (id : ℕ) →
