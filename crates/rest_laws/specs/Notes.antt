@@ -1,5 +1,5 @@
 -- A note is what made a node know a chain: a vote, and who told of it. Once it has started anew these votes come again (own).
-use Rattle.std.specs.Prelude.{◌≡◌, ℕ, Bool, ◌==◌, true, false, List, [], ◌∷◌, ◌++◌, flat_map, map, Some, None}
+use Rattle.std.specs.Prelude.{◌≡◌, ℕ, Bool, ◌==◌, ◌||◌, true, false, List, [], ◌∷◌, ◌++◌, flat_map, map, Some, None}
 use Rattle.mc_model.specs.message.Decree.{Attempt, Decree, Failed, Fate, Kind, Taken, Told}
 use Rattle.mc_model.specs.node.Input.{Delivery, Input, Restart}
 use Rattle.mc_model.specs.node.Outputs.{Outputs}
@@ -102,6 +102,29 @@ votes_in notes = flat_map votes_of notes
 -- the node starts anew, and then they come
 abbrev pub anew : ℕ → List Note → List Input
 anew lost notes = come (votes_in notes) ++ Restart lost ∷ []
+
+-- Notes of chains that start no round, of no message two.
+abbrev pub AreNotes : Setup → Kept → List Note → Type 0
+AreNotes setup k [] = Unit {0}
+AreNotes setup k (n ∷ notes) =
+    IsNote setup k n × StartsNoRound setup n.slot.id n.vote.chain × ((other : Note) → In other notes → other.slot.id ≡ n.slot.id → ⊥)
+    × AreNotes setup k notes
+
+-- their messages, and what is kept with their chains put in
+abbrev pub noted_in : List Note → ℕ → Bool
+noted_in [] id = false
+noted_in (n ∷ notes) id = (id == n.slot.id) || noted_in notes id
+
+abbrev pub with_known : Kept → List Note → Kept
+with_known k [] = k
+with_known k (n ∷ notes) = with_message (with_known k notes) n.slot.id (record unseen { known = Some n.vote.chain })
+
+-- Over notes a node starts anew with what a start anew keeps and with their chains put in, but for what it heard of them; nothing goes out.
+pub record OpensOver (setup : Setup) (k : Kept) (lost : ℕ) (notes : List Note) : Type 0 where
+  pub kept : cool (noted_in notes) (kept_after setup k (anew lost notes)) ≡ cool (noted_in notes) (with_known (restarted setup k lost) notes)
+  pub quiet : AreNothing (kept_outputs setup k (anew lost notes))
+
+-- ---- over notes of what is gone
 
 -- a note of a chain that is over, beyond which no own vote stands, of a message that is gone
 pub record IsNoteOfGone (setup : Setup) (gone : ℕ → Bool) (k : Kept) (n : Note) : Type 0 where

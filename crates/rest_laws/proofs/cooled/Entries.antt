@@ -108,3 +108,24 @@ module _ (cold : ℕ → Bool) where
   pub with_any : (k : Kept) (id : ℕ) (m n : Message) → cooled_if (cold id) m ≡ cooled_if (cold id) n →
       cool cold (with_message (cool cold k) id m) ≡ cool cold (with_message k id n)
   with_any k id m n same = sym (with_cool (cool cold k) id m) ∙ ((λ i. with_message (cool_twice k i) id (same i)) ∙ with_cool k id n)
+
+-- ---- what was cold for fewer is cold for more
+
+module _ (fewer more : ℕ → Bool) (covers : (id : ℕ) → fewer id ≡ true → more id ≡ true) where
+  both_cool : (id : ℕ) (m : Message) → cooled_if (more id) (cooled_if (fewer id) m) ≡ cooled_if (more id) m
+  both_cool id m = by (fewer id) refl
+    where
+      twice : (b : Bool) → b ≡ true → cooled_if b (cooled m) ≡ cooled_if b m
+      twice true is = refl
+      twice false is = absurd (cc)
+
+      by : (b : Bool) → fewer id ≡ b → cooled_if (more id) (cooled_if b m) ≡ cooled_if (more id) m
+      by true is = twice (more id) (covers id is)
+      by false is = refl
+
+  entries_more : (es : List (ℕ × Message)) → cool_all more (cool_all fewer es) ≡ cool_all more es
+  entries_more [] = refl
+  entries_more (e ∷ es) = λ i. (e.0, both_cool e.0 e.1 i) ∷ entries_more es i
+
+  pub cool_more : (k : Kept) → cool more (cool fewer k) ≡ cool more k
+  cool_more k = λ i. record k { messages = entries_more k.messages i }

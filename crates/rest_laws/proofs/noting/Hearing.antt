@@ -297,6 +297,21 @@ module _ (k now : Kept) (id : ℕ) (chain : List Decree) (unheard : message_at k
       ∙ ((λ i. with_message (cool one k) id (cooled_if (sym self i) (record unseen { known = Some chain })))
       ∙ with_cool one k id (record unseen { known = Some chain })))))
 
+decided : (setup : Setup) {k : Kept} (n : Note) (now : Kept) → HasNoted setup k n → Hears setup k n n.voters now →
+    (message_at now n.slot.id).known ≡ Some n.vote.chain
+decided setup n later has h = elim h.known [
+  | inl unknown ↦ let most = has.majority in let few = unknown.1 in absurd (cc)
+  | inr known ↦ known
+]
+
+pub knows_last : (setup : Setup) (k : Kept) (n : Note) → HasNoted setup k n →
+    cool (λ other. other == n.slot.id) (kept_after setup k (come (votes_of n)))
+    ≡ cool (λ other. other == n.slot.id) (with_message k n.slot.id (record unseen { known = Some n.vote.chain }))
+knows_last setup k n has =
+    let h = hears setup k n has n.voters has.members in
+    only_known k (kept_after setup k (come (votes_of n))) n.slot.id n.vote.chain has.unheard (decided setup n (kept_after setup k (come (votes_of n))) has h) h.round
+    h.only
+
 pub knows_again : (setup : Setup) (k : Kept) (n : Note) → IsFresh k n.slot.id → IsNote setup k n → StartsNoRound setup n.slot.id n.vote.chain →
     KnowsAgain setup k n
 knows_again setup k n fresh note starts =
@@ -311,13 +326,9 @@ knows_again setup k n fresh note starts =
       majority = note.majority;
     } in
     let h = hears setup k n has n.voters has.members in
-    let known : (message_at (kept_after setup k (come (votes_of n))) n.slot.id).known ≡ Some n.vote.chain = elim h.known [
-      | inl unknown ↦ let most = has.majority in let few = unknown.1 in absurd (cc)
-      | inr known ↦ known
-    ] in
     record {
-      known = known;
-      kept = only_known k (kept_after setup k (come (votes_of n))) n.slot.id n.vote.chain has.unheard known h.round h.only;
+      known = decided setup n (kept_after setup k (come (votes_of n))) has h;
+      kept = knows_last setup k n has;
       round = h.round;
       records = h.records;
       quiet = h.quiet;
