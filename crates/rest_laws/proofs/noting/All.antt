@@ -1,19 +1,19 @@
 -- A start anew over notes keeps what a start anew keeps, with the chains of the notes put in.
-use Rattle.std.proofs.Common.{◌≡◌, ◌⊎◌, ℕ, Bool, true, false, List, [], ◌∷◌, ◌++◌, Some, refl, sym, subst, ap, ◌∙◌, inl, inr}
+use Rattle.std.proofs.Common.{◌≡◌, ℕ, Bool, true, List, [], ◌∷◌, Some, refl, sym, subst, ap, ◌∙◌, inl, inr}
 use Rattle.std.specs.Prelude.{◌==◌, ◌&&◌, ◌||◌, nat_lt, not}
 use Rattle.std.proofs.lemmas.Bool.{eq-eqb, eqb-true, or_left, or_right}
 use Rattle.mc_model.specs.message.Ids.{incarnation_of, node_of, serial_of}
-use Rattle.mc_model.specs.node.Input.{Input, Restart}
+use Rattle.mc_model.specs.node.Input.{Restart}
 use Rattle.mc_model.specs.node.Setup.{Setup}
 use Rattle.mc_model.specs.synod.Lists.{In}
 use Rattle.mc_model.specs.synod.Packet.{same_slot, slot_of}
 use Rattle.node_model.specs.Answers.{ends_told}
 use Rattle.node_model.specs.Kept.{Kept, message_at, with_message}
 use Rattle.node_model.specs.Message.{Message, unseen}
-use Rattle.node_model.specs.Stepped.{restarted, stepped}
+use Rattle.node_model.specs.Stepped.{restarted}
 use Rattle.node_laws.specs.Runs.{kept_after, kept_outputs}
 use Rattle.rest_laws.specs.Cooled.{cool, cooled_if}
-use Rattle.rest_laws.specs.Notes.{AreNotes, AreNothing, Note, OpensOver, anew, come, noted_in, votes_in, votes_of, with_known}
+use Rattle.rest_laws.specs.Notes.{AreNotes, AreNothing, Note, OpensOver, anew, come, noted_in, votes_in, with_known}
 use Rattle.rest_laws.proofs.cooled.Entries.{cool_more, with_cool}
 use Rattle.rest_laws.proofs.noting.Anew.{QuietAll, heard_all, heard_is, kept_on, quiet_all, quiet_on, restart_gives, restart_keeps, restarted_unheard}
 use Rattle.rest_laws.proofs.noting.Hearing.{HasNoted, hears, knows_last}
@@ -60,9 +60,9 @@ module _ (setup : Setup) (k : Kept) (up : k.up ≡ true) (held : k.held ≡ []) 
         earlier = ap (λ (x : ℕ). ends_told setup.node x n.vote.chain) before.incarnation ∙ are.0.earlier;
         concerns =
             (λ i. same_slot n.slot (slot_of n.slot.id n.vote.chain)
-                && (not (node_of n.slot.id == setup.node)
-                || (nat_lt (incarnation_of n.slot.id) (before.incarnation i)
-                || ((incarnation_of n.slot.id == before.incarnation i) && nat_lt (serial_of n.slot.id) (before.serial i)))))
+            && (not (node_of n.slot.id == setup.node)
+            || (nat_lt (incarnation_of n.slot.id) (before.incarnation i)
+            || ((incarnation_of n.slot.id == before.incarnation i) && nat_lt (serial_of n.slot.id) (before.serial i)))))
             ∙ are.0.concerns;
         members = are.0.members;
         majority = are.0.majority;

@@ -1,5 +1,5 @@
 -- A node forgets what it heard of a message that is calm: what stands behind it then.
-use Rattle.std.proofs.Common.{◌≡◌, ℕ, Bool, true, false, List, [], ◌∷◌, refl, sym, subst, ap, ◌∙◌}
+use Rattle.std.proofs.Common.{◌≡◌, ℕ, Bool, true, false, List, refl, sym, subst, ap, ◌∙◌}
 use Rattle.std.specs.Prelude.{◌==◌, ◌||◌, if◌then◌else◌}
 use Rattle.std.proofs.lemmas.Bool.{eq-eqb, eqb-true}
 use Rattle.mc_model.specs.cluster.Steps.{Cluster}
@@ -8,7 +8,7 @@ use Rattle.node_model.specs.Granted.{is_open_in}
 use Rattle.node_model.specs.Kept.{Kept, message_at}
 use Rattle.node_model.specs.Message.{Message}
 use Rattle.rest_laws.specs.Behind.{StandsBehind}
-use Rattle.rest_laws.specs.Cooled.{AreCalm, AreShut, IsCalm, cool, cooled, cooled_if}
+use Rattle.rest_laws.specs.Cooled.{AreCalm, AreShut, IsCalm, cool, cooled_if}
 use Rattle.rest_laws.specs.Remains.{Cools, Remains, and_also, remains_then}
 use Rattle.rest_laws.specs.Without.{without}
 use Rattle.rest_laws.proofs.cooled.Entries.{cool_more, message_cool}
