@@ -4,3 +4,4 @@ pub mod Anew
 pub mod Known
 pub mod Gone
 pub mod FirstMessage
+pub mod All

@@ -9,3 +9,4 @@ pub mod Starting
 pub mod Histories
 pub mod Splits
 pub mod Given
+pub mod Each

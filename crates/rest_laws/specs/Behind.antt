@@ -50,6 +50,7 @@ StandFor cluster inputs (Starts node lost ∷ older) =
     (before : List NodeInput) × (again : List Packet) × (inputs ≡ come_again node again (comes_to node (Restart lost) ∷ before))
     × GiveNothing cluster node again (comes_to node (Restart lost) ∷ before) × StandFor cluster before older
 
+-- both: these inputs stand for these events, and lead to what remains after them
 pub record IsBehind (cluster : Cluster) (inputs : List NodeInput) (events : List Event) : Type 0 where
   pub stands : StandsBehind cluster inputs (remains_after cluster events)
   pub events_are : StandFor cluster inputs events

@@ -28,6 +28,7 @@ cooled_if cold m = if cold then cooled m else m
 abbrev pub cool : (ℕ → Bool) → Kept → Kept
 cool cold k = record k { messages = map (λ entry. (entry.0, cooled_if (cold entry.0) entry.1)) k.messages }
 
+-- a step that leaves just that
 abbrev pub cool_step : (ℕ → Bool) → Stepped → Stepped
 cool_step cold s = record { kept = cool cold s.kept; outputs = s.outputs }
 
@@ -44,6 +45,7 @@ pub record IsCalm (k : Kept) (id : ℕ) : Type 0 where
   pub asking : (h : Held) → In h k.held → id_of h ≡ id → asks h.waiting.request ≡ true
   pub told : (h : Held) → In h k.held → id_of h ≡ id → follow (Some chain) h.top ≡ None
 
+-- all that are cold are so
 abbrev pub AreCalm : (ℕ → Bool) → Kept → Type 0
 AreCalm cold k = (id : ℕ) → cold id ≡ true → IsCalm k id
 

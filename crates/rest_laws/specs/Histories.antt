@@ -3,7 +3,7 @@ use Rattle.std.specs.Prelude.{◌≡◌, ℕ, List, ◌∷◌, ◌++◌}
 use Rattle.mc_model.specs.cluster.Steps.{Cluster}
 use Rattle.mc_model.specs.message.Chain.{untold}
 use Rattle.mc_model.specs.message.Decree.{Attempt, Decree, Delivered, Fate}
-use Rattle.mc_model.specs.node.Input.{Grant, Input, Response}
+use Rattle.mc_model.specs.node.Input.{Grant, Input, Response, Restart}
 use Rattle.mc_model.specs.node.Outcome.{Concluded}
 use Rattle.mc_model.specs.synod.Lists.{In}
 use Rattle.mc_model.specs.synod.Packet.{slot_of}
@@ -14,6 +14,14 @@ use Rattle.rest_laws.specs.Remains.{Event, Starts, Takes}
 -- a run of the cluster stands behind it
 abbrev pub HasRun : Cluster → List Event → Type 0
 HasRun cluster events = (inputs : List NodeInput) × IsBehind cluster inputs events
+
+-- the event by which an input comes to a node that forgets nothing
+abbrev pub event_by : ℕ → Input → Event
+event_by node (Restart lost) = Starts node lost
+event_by node input = Takes node input
+
+abbrev pub event_of : NodeInput → Event
+event_of next = event_by next.node next.input
 
 -- a node does not start anew as these events happen
 abbrev pub LivesThrough : ℕ → List Event → Type 0

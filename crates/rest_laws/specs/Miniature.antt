@@ -44,6 +44,7 @@ abbrev pub MaySpeak : Bool → Store → Type 0
 MaySpeak true s = s.dropped ≡ false
 MaySpeak false s = Unit {0}
 
+-- what each act needs
 abbrev pub Needs : Bool → Miniature → Act → Type 0
 Needs guarded w (Promises node ballot) = MaySpeak guarded (w.stores node) × ((w.stores node).promised < ballot)
 Needs guarded w (Votes node vote) =
@@ -58,6 +59,7 @@ Needs guarded w (Notes node) = Unit {0}
 Needs guarded w (Restarts node) = Unit {0}
 Needs guarded w (Drops node) = Unit {0}
 
+-- what it leaves
 abbrev pub promise_of : Miniature → ℕ → ℕ → SlotPromise
 promise_of w node ballot = record { acceptor = node; ballot = ballot; report = (w.stores node).vote }
 
@@ -77,6 +79,7 @@ after w (Tells node chain) = record w { told = chain ∷ w.told }
 after w (Restarts node) = record w { knows = changed w.knows node (w.stores node).known }
 after w (Drops node) = record w { stores = changed w.stores node erased; knows = changed w.knows node None }
 
+-- nothing was done yet
 abbrev pub start : ℕ → Miniature
 start nodes = record {
   nodes = nodes;
@@ -91,6 +94,7 @@ abbrev pub led_by : ℕ → List Act → Miniature
 led_by nodes [] = start nodes
 led_by nodes (newest ∷ older) = after (led_by nodes older) newest
 
+-- each act may be done where it stands, by nodes that are so guarded or not
 abbrev pub AreActs : Bool → ℕ → List Act → Type 0
 AreActs guarded nodes [] = Unit {0}
 AreActs guarded nodes (newest ∷ older) = Needs guarded (led_by nodes older) newest × AreActs guarded nodes older

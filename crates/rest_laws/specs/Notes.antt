@@ -1,5 +1,5 @@
 -- A note is what made a node know a chain: a vote, and who told of it. Once it has started anew these votes come again (own).
-use Rattle.std.specs.Prelude.{◌≡◌, ℕ, Bool, true, false, List, [], ◌∷◌, ◌++◌, flat_map, map, Some, None}
+use Rattle.std.specs.Prelude.{◌≡◌, ℕ, Bool, ◌==◌, ◌||◌, true, false, List, [], ◌∷◌, ◌++◌, flat_map, map, Some, None}
 use Rattle.mc_model.specs.message.Decree.{Attempt, Decree, Failed, Fate, Kind, Taken, Told}
 use Rattle.mc_model.specs.node.Input.{Delivery, Input, Restart}
 use Rattle.mc_model.specs.node.Outputs.{Outputs}
@@ -9,7 +9,7 @@ use Rattle.mc_model.specs.synod.OneSlot.{Vote}
 use Rattle.mc_model.specs.synod.Packet.{Packet, Slot, Voted, slot_of}
 use Rattle.node_model.specs.Acceptor.{told_of}
 use Rattle.node_model.specs.Answers.{ends_told}
-use Rattle.node_model.specs.Kept.{Kept, message_at}
+use Rattle.node_model.specs.Kept.{Kept, message_at, with_message}
 use Rattle.node_model.specs.Message.{unseen}
 use Rattle.node_model.specs.Outputs.{nothing}
 use Rattle.node_model.specs.Packets.{is_member, start_known, vote_concerns}
@@ -18,6 +18,7 @@ use Rattle.node_model.specs.Starts.{follow}
 use Rattle.node_model.specs.Stepped.{restarted}
 use Rattle.node_laws.specs.Runs.{kept_after, kept_outputs}
 use Rattle.rest_laws.specs.AtRest.{AreAtRest, is_over}
+use Rattle.rest_laws.specs.Cooled.{cool}
 use Rattle.rest_laws.specs.Without.{without}
 
 -- those who told of the vote stand with the last one first
@@ -33,6 +34,7 @@ set_of (node ∷ others) = with_node (set_of others) node
 
 -- ---- the votes of a note come again
 
+-- as packets
 abbrev pub votes_of : Note → List Packet
 votes_of n = map (λ voter. Voted voter n.slot n.vote) n.voters
 
@@ -71,12 +73,15 @@ pub record IsFresh (k : Kept) (id : ℕ) : Type 0 where
   pub held : k.held ≡ []
   pub unheard : message_at k id ≡ unseen
 
--- Once the votes of a note came again the node knows their chain, no round runs, its records are as they were, and nothing went out.
+-- Once the votes of a note came again the node knows their chain, no round runs, its records are as they were, and nothing went out. But for what it heard of
+-- that message it keeps what it kept, with the chain put in.
 pub record KnowsAgain (setup : Setup) (k : Kept) (n : Note) : Type 0 where
   pub known : (message_at (kept_after setup k (come (votes_of n))) n.slot.id).known ≡ Some n.vote.chain
   pub round : (message_at (kept_after setup k (come (votes_of n))) n.slot.id).round ≡ None
   pub records : (kept_after setup k (come (votes_of n))).records ≡ k.records
   pub quiet : AreNothing (kept_outputs setup k (come (votes_of n)))
+  pub kept : cool (λ other. other == n.slot.id) (kept_after setup k (come (votes_of n)))
+      ≡ cool (λ other. other == n.slot.id) (with_message k n.slot.id (record unseen { known = Some n.vote.chain }))
 
 -- ---- what a node may note
 
@@ -94,8 +99,32 @@ pub record HasNote (setup : Setup) (k : Kept) (id : ℕ) (chain : List Decree) :
 abbrev pub votes_in : List Note → List Packet
 votes_in notes = flat_map votes_of notes
 
+-- the node starts anew, and then they come
 abbrev pub anew : ℕ → List Note → List Input
 anew lost notes = come (votes_in notes) ++ Restart lost ∷ []
+
+-- Notes of chains that start no round, of no message two.
+abbrev pub AreNotes : Setup → Kept → List Note → Type 0
+AreNotes setup k [] = Unit {0}
+AreNotes setup k (n ∷ notes) =
+    IsNote setup k n × StartsNoRound setup n.slot.id n.vote.chain × ((other : Note) → In other notes → other.slot.id ≡ n.slot.id → ⊥)
+    × AreNotes setup k notes
+
+-- their messages, and what is kept with their chains put in
+abbrev pub noted_in : List Note → ℕ → Bool
+noted_in [] id = false
+noted_in (n ∷ notes) id = (id == n.slot.id) || noted_in notes id
+
+abbrev pub with_known : Kept → List Note → Kept
+with_known k [] = k
+with_known k (n ∷ notes) = with_message (with_known k notes) n.slot.id (record unseen { known = Some n.vote.chain })
+
+-- Over notes a node starts anew with what a start anew keeps and with their chains put in, but for what it heard of them; nothing goes out.
+pub record OpensOver (setup : Setup) (k : Kept) (lost : ℕ) (notes : List Note) : Type 0 where
+  pub kept : cool (noted_in notes) (kept_after setup k (anew lost notes)) ≡ cool (noted_in notes) (with_known (restarted setup k lost) notes)
+  pub quiet : AreNothing (kept_outputs setup k (anew lost notes))
+
+-- ---- over notes of what is gone
 
 -- a note of a chain that is over, beyond which no own vote stands, of a message that is gone
 pub record IsNoteOfGone (setup : Setup) (gone : ℕ → Bool) (k : Kept) (n : Note) : Type 0 where

@@ -33,13 +33,14 @@ abbrev pub all_new : Cluster → Remains
 all_new cluster =
     record { kept = λ node. opened_new (setup_of cluster node); gone = λ node id. false; cold = λ node id. false; packets = [] }
 
--- a message more, or less
+-- a set of messages with one more, and with one less
 abbrev pub and_also : (ℕ → Bool) → ℕ → ℕ → Bool
 and_also some id other = some other || other == id
 
 abbrev pub but_for : (ℕ → Bool) → ℕ → ℕ → Bool
 but_for some id other = some other && not (other == id)
 
+-- what remains after an event: a start anew leaves what stands in the store, and what was dropped stays so
 abbrev pub remains_then : Cluster → Remains → Event → Remains
 remains_then cluster r (Takes node input) = record {
   kept = changed r.kept node (stepped (setup_of cluster node) (r.kept node) input).kept;
@@ -86,6 +87,7 @@ MayBe cluster r (Drops node id) = IsAtRest (r.kept node) id
 MayBe cluster r (Cools node id) = IsCalm (r.kept node) id × ((place : ℕ) → is_open_in (message_at (r.kept node) id) place ≡ false)
 MayBe cluster r (Starts node lost) = IsOneOf (setup_of cluster node) × ((r.kept node).incarnation + lost < 9999)
 
+-- each event may happen where it stands
 abbrev pub IsHistory : Cluster → List Event → Type 0
 IsHistory cluster [] = Unit {0}
 IsHistory cluster (newest ∷ older) = MayBe cluster (remains_after cluster older) newest × IsHistory cluster older
@@ -94,6 +96,7 @@ IsHistory cluster (newest ∷ older) = MayBe cluster (remains_after cluster olde
 abbrev pub given_at : Cluster → List Event → ℕ → Input → Outputs
 given_at cluster older node input = (stepped (setup_of cluster node) ((remains_after cluster older).kept node) input).outputs
 
+-- all that was given out
 abbrev pub given_then : Cluster → List Event → Event → List Outputs → List Outputs
 given_then cluster older (Takes node input) given = given_at cluster older node input ∷ given
 given_then cluster older (Drops node id) given = given

@@ -44,6 +44,7 @@ Spares gone (Grant slot) = gone slot.id ≡ false
 Spares gone (Response slot outcome) = gone slot.id ≡ false
 Spares gone (Restart lost) = ⊥
 
+-- nothing that comes, the newest first, is about them
 abbrev pub AllSpare : (ℕ → Bool) → List Input → Type 0
 AllSpare gone [] = Unit {0}
 AllSpare gone (newest ∷ older) = Spares gone newest × AllSpare gone older

@@ -1,9 +1,9 @@
 //! What happens to nodes that forget messages is what happens to nodes that do not.
 
-ghost use Rattle.std.specs.Prelude.{◌≡◌, ◌∷◌, ℕ, ◌+◌, ◌<◌, List, false};
+ghost use Rattle.std.specs.Prelude.{◌≡◌, ◌∷◌, ℕ, ◌+◌, ◌<◌, List, false, map};
 ghost use Rattle.mc_model.specs.cluster.Steps.{Cluster, setup_of};
 ghost use Rattle.mc_model.specs.node.Input.{Input};
-ghost use Rattle.node_laws.specs.Clusters.{NodeInput, WasSentBefore, comes_to, outputs_at};
+ghost use Rattle.node_laws.specs.Clusters.{MayHappen, NodeInput, kept_reached, WasSentBefore, comes_to, outputs_at};
 ghost use Rattle.node_laws.specs.Runs.{IsOneOf, IsUpFor, MayCome};
 ghost use Rattle.node_model.specs.Granted.{is_open_in};
 ghost use Rattle.node_model.specs.Kept.{message_at};
@@ -11,8 +11,8 @@ ghost use Rattle.node_model.specs.Stepped.{stepped};
 ghost use Rattle.rest_laws.specs.AtRest.{IsAtRest};
 ghost use Rattle.rest_laws.specs.Behind.{StandsBehind, StartsBehind};
 ghost use Rattle.rest_laws.specs.Cooled.{IsCalm};
-ghost use Rattle.rest_laws.specs.Histories.{HasRun};
-ghost use Rattle.rest_laws.specs.Remains.{Cools, Drops, Event, IsHistory, Remains, Starts, Takes, remains_then};
+ghost use Rattle.rest_laws.specs.Histories.{HasRun, event_of};
+ghost use Rattle.rest_laws.specs.Remains.{Cools, Drops, Event, IsHistory, Remains, Starts, Takes, remains_after, remains_then};
 ghost use Rattle.rest_laws.specs.Without.{Spares};
 
 /// A node takes a step that is not about what it dropped, whatever it forgot of others: the run of the cluster that stands behind it goes on
@@ -53,4 +53,11 @@ pub fn a_start_anew_goes_on()
 /// for every list of such events: a run of the cluster stands behind it, in which the same comes and the same is given out.
 pub fn a_run_stands_behind()
     ensures { (cluster : Cluster) (events : List Event) → IsHistory cluster events → HasRun cluster events }
+{}
+
+/// And each run of the cluster is such a history, in which nothing is forgotten: so nothing is left out by these.
+pub fn each_run_is_a_history()
+    ensures history { (cluster : Cluster) (inputs : List NodeInput) → MayHappen cluster inputs → IsHistory cluster (map event_of inputs) }
+    ensures kept { (cluster : Cluster) (inputs : List NodeInput) (node : ℕ) →
+        (remains_after cluster (map event_of inputs)).kept node ≡ (kept_reached cluster inputs).kept node }
 {}

@@ -18,11 +18,13 @@ ghost use Rattle.rest_laws.specs.AtRest.{is_over};
 ghost use Rattle.rest_laws.specs.FirstMessage.{first_gone, first_note};
 ghost use Rattle.rest_laws.specs.Notes.{
   AreAllNoted,
+  AreNotes,
   HasNote,
   IsFresh,
   IsNote,
   KnowsAgain,
   Note,
+  OpensOver,
   StartsNoRound,
   StartsWithout,
   waits,
@@ -56,6 +58,12 @@ pub fn most_chains_start_no_round()
     ensures over { (setup : Setup) (id : ℕ) (chain : List Decree) → is_over chain ≡ true → StartsNoRound setup id chain }
     ensures waits { (setup : Setup) (id : ℕ) (newest : Decree) (older : List Decree) → waits newest.kind ≡ true →
         StartsNoRound setup id (newest ∷ older) }
+{}
+
+/// So a node starts anew over notes: with what a start anew keeps, and the chains of the notes known.
+pub fn a_node_starts_anew_over_notes()
+    ensures { (setup : Setup) (k : Kept) (lost : ℕ) (notes : List Note) → AreNotes setup (restarted setup k lost) notes →
+        OpensOver setup k lost notes }
 {}
 
 /// A node that dropped messages starts anew as if behind the start the votes came again that were noted of them: by these nothing goes

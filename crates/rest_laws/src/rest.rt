@@ -5,6 +5,8 @@ ghost use Rattle.mc_model.specs.node.Grant.{NotChosen};
 ghost use Rattle.mc_model.specs.node.Input.{Input};
 ghost use Rattle.mc_model.specs.node.Reach.{Reach};
 ghost use Rattle.mc_model.specs.node.Setup.{Setup};
+ghost use Rattle.mc_parts.specs.FirstMessage.{first_id};
+ghost use Rattle.node_laws.specs.Examples.{delivers, played_alone};
 ghost use Rattle.node_model.specs.Attempts.{grant_refusal};
 ghost use Rattle.node_model.specs.Kept.{Kept};
 ghost use Rattle.node_model.specs.Rules.{first_rule};
@@ -31,4 +33,9 @@ pub fn a_node_does_without_what_is_at_rest()
 pub fn a_run_does_without_what_is_at_rest()
     ensures { (setup : Setup) (gone : ℕ → Bool) (k : Kept) (inputs : List Input) → AreAtRest gone k → AllSpare gone inputs →
         DoesWithout setup gone k inputs }
+{}
+
+/// A worked row: a node alone delivers its first message, and tells the receipt; then the message is at rest.
+pub fn a_delivered_message_is_at_rest()
+    ensures { IsAtRest (played_alone delivers).kept first_id }
 {}

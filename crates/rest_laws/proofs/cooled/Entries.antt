@@ -15,6 +15,30 @@ use Rattle.node_model.proofs.Keys.{same_key}
 use Rattle.rest_laws.specs.Cooled.{cool, cooled, cooled_if}
 use Rattle.rest_laws.proofs.forgetting.Kept.{Forgetting}
 
+-- ---- what was cold for fewer is cold for more
+
+module _ (fewer more : ℕ → Bool) (covers : (id : ℕ) → fewer id ≡ true → more id ≡ true) where
+  both_cool : (id : ℕ) (m : Message) → cooled_if (more id) (cooled_if (fewer id) m) ≡ cooled_if (more id) m
+  both_cool id m = by (fewer id) refl
+    where
+      twice : (b : Bool) → b ≡ true → cooled_if b (cooled m) ≡ cooled_if b m
+      twice true is = refl
+      twice false is = absurd (cc)
+
+      by : (b : Bool) → fewer id ≡ b → cooled_if (more id) (cooled_if b m) ≡ cooled_if (more id) m
+      by true is = twice (more id) (covers id is)
+      by false is = refl
+
+  abbrev by_some : (ℕ → Bool) → List (ℕ × Message) → List (ℕ × Message)
+  by_some some es = map (λ (entry : ℕ × Message). (entry.0, cooled_if (some entry.0) entry.1)) es
+
+  entries_more : (es : List (ℕ × Message)) → by_some more (by_some fewer es) ≡ by_some more es
+  entries_more [] = refl
+  entries_more (e ∷ es) = λ i. (e.0, both_cool e.0 e.1 i) ∷ entries_more es i
+
+  pub cool_more : (k : Kept) → cool more (cool fewer k) ≡ cool more k
+  cool_more k = λ i. record k { messages = entries_more k.messages i }
+
 module _ (cold : ℕ → Bool) where
   abbrev pub cool_entry : ℕ × Message → ℕ × Message
   cool_entry entry = (entry.0, cooled_if (cold entry.0) entry.1)
@@ -38,7 +62,7 @@ module _ (cold : ℕ → Bool) where
       by Greater order rest = ap (λ (l : List (ℕ × Message)). cool_entry e ∷ l) rest
 
   -- what is kept of a message then
-  with_cool : (k : Kept) (id : ℕ) (m : Message) → with_message (cool cold k) id (cooled_if (cold id) m) ≡ cool cold (with_message k id m)
+  pub with_cool : (k : Kept) (id : ℕ) (m : Message) → with_message (cool cold k) id (cooled_if (cold id) m) ≡ cool cold (with_message k id m)
   with_cool k id m = λ i. record k { messages = sym (insert_cool k.messages id m) i }
 
   lookup_cool : (es : List (ℕ × Message)) (id : ℕ) →
@@ -93,16 +117,8 @@ module _ (cold : ℕ → Bool) where
 
   -- ---- what is cool stays so
 
-  cooled_twice : (b : Bool) (m : Message) → cooled_if b (cooled_if b m) ≡ cooled_if b m
-  cooled_twice true m = refl
-  cooled_twice false m = refl
-
-  all_twice : (es : List (ℕ × Message)) → cool_all (cool_all es) ≡ cool_all es
-  all_twice [] = refl
-  all_twice (e ∷ es) = λ i. (e.0, cooled_twice (cold e.0) e.1 i) ∷ all_twice es i
-
   pub cool_twice : (k : Kept) → cool cold (cool cold k) ≡ cool cold k
-  cool_twice k = λ i. record k { messages = all_twice k.messages i }
+  cool_twice = cool_more cold cold (λ id is. is)
 
   -- a message that is cool may be kept with anything else but what is known, and its round
   pub with_any : (k : Kept) (id : ℕ) (m n : Message) → cooled_if (cold id) m ≡ cooled_if (cold id) n →

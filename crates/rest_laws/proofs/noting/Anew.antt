@@ -237,14 +237,14 @@ quiet_on setup k (newest ∷ newer) older before later =
 come_on : (first others : List Packet) → come (first ++ others) ≡ come first ++ come others
 come_on first others = map-append Delivery first others
 
-heard_is : (setup : Setup) (k : Kept) (notes : List Note) → kept_after setup k (come (votes_in notes)) ≡ heard_all setup k notes
+pub heard_is : (setup : Setup) (k : Kept) (notes : List Note) → kept_after setup k (come (votes_in notes)) ≡ heard_all setup k notes
 heard_is setup k [] = refl
 heard_is setup k (n ∷ notes) =
     ap (kept_after setup k) (come_on (votes_of n) (votes_in notes))
     ∙ (kept_on setup k (come (votes_of n)) (come (votes_in notes))
     ∙ ap (λ (x : Kept). kept_after setup x (come (votes_of n))) (heard_is setup k notes))
 
-quiet_all : (setup : Setup) (k : Kept) (notes : List Note) → QuietAll setup k notes → AreNothing (kept_outputs setup k (come (votes_in notes)))
+pub quiet_all : (setup : Setup) (k : Kept) (notes : List Note) → QuietAll setup k notes → AreNothing (kept_outputs setup k (come (votes_in notes)))
 quiet_all setup k [] quiet = tt
 quiet_all setup k (n ∷ notes) quiet =
     subst (λ (inputs : List Input). AreNothing (kept_outputs setup k inputs)) (sym (come_on (votes_of n) (votes_in notes)))

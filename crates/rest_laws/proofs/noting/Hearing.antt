@@ -25,6 +25,13 @@ use Rattle.rest_laws.proofs.without.Entries.{Ascend, with_gone}
 use Rattle.node_model.proofs.Same.{vote_decides}
 use Rattle.rest_laws.proofs.without.Resting.{and_no}
 use Rattle.mc_model.specs.node.Input.{Delivery}
+use Rattle.std.specs.BTreeMap.{insert_entry}
+use Rattle.std.specs.Ordering.{match_ordering, nat_cmp}
+use Rattle.std.specs.declared.cmp.Ordering.{Ordering}
+use Rattle.std.specs.declared.cmp.Ordering.TheVariants.{Less, Equal, Greater}
+use Rattle.std.proofs.lemmas.Bool.{eq-eqb}
+use Rattle.rest_laws.specs.Cooled.{cool, cooled, cooled_if}
+use Rattle.rest_laws.proofs.cooled.Entries.{with_cool}
 use Rattle.rest_laws.specs.Notes.{AreNothing, IsFresh, IsNote, KnowsAgain, Note, StartsNoRound, come, set_of, votes_of}
 use Rattle.node_laws.specs.Runs.{kept_after, kept_outputs}
 use Rattle.mc_model.specs.synod.Packet.{Packet, Voted}
@@ -167,6 +174,26 @@ pub record Hears (setup : Setup) (k : Kept) (n : Note) (voters : List ℕ) (now 
   pub others : (other : ℕ) → (other ≡ n.slot.id → ⊥) → message_at now other ≡ message_at k other
   pub spares : (gone : ℕ → Bool) → gone n.slot.id ≡ true → without gone now ≡ without gone k
   pub ascends : Ascend (keys_of k.messages) → Ascend (keys_of now.messages)
+  pub only : (now ≡ k) ⊎ ((m : Message) × (now ≡ with_message k n.slot.id m))
+
+-- what is kept last stays
+put_again : (es : List (ℕ × Message)) (id : ℕ) (m last : Message) →
+    insert_entry nat_cmp (insert_entry nat_cmp es id m) id last ≡ insert_entry nat_cmp es id last
+put_again [] id m last = let same : nat_cmp id id ≡ Equal = grind (arith, nat_tests) in rw same refl
+put_again (e ∷ es) id m last = by (nat_cmp id e.0) refl (put_again es id m last)
+  where
+    by : (o : Ordering) → nat_cmp id e.0 ≡ o → insert_entry nat_cmp (insert_entry nat_cmp es id m) id last ≡ insert_entry nat_cmp es id last →
+        insert_entry nat_cmp (match_ordering o ((id, m) ∷ e ∷ es) ((e.0, m) ∷ es) (e ∷ insert_entry nat_cmp es id m)) id last
+        ≡ match_ordering o ((id, last) ∷ e ∷ es) ((e.0, last) ∷ es) (e ∷ insert_entry nat_cmp es id last)
+    by Less order rest = let same : nat_cmp id id ≡ Equal = grind (arith, nat_tests) in rw same refl
+    by Equal order rest = rw order refl
+    by Greater order rest = rw order (ap (λ (l : List (ℕ × Message)). e ∷ l) rest)
+
+only_last : (k now : Kept) (id : ℕ) (last : Message) → (now ≡ k) ⊎ ((m : Message) × (now ≡ with_message k id m)) →
+    with_message now id last ≡ with_message k id last
+only_last k later id last (inl same) = ap (λ (x : Kept). with_message x id last) same
+only_last k later id last (inr put) =
+    ap (λ (x : Kept). with_message x id last) put.1 ∙ (λ i. record k { messages = put_again k.messages id put.0 last i })
 
 -- of an empty set no majority is
 none_count : (set : ℕ → Bool) (nodes : ℕ) → ((node : ℕ) → set node ≡ false) → count set nodes ≡ 0
@@ -193,6 +220,7 @@ begins setup k n has = record {
   others = λ other apart. refl;
   spares = λ gone is. refl;
   ascends = λ ascend. ascend;
+  only = inl refl;
 }
 
 goes_on : (setup : Setup) (k : Kept) (n : Note) (voter : ℕ) (earlier : List ℕ) (now : Kept) → now ≡ kept_after setup k (come (votes_by n earlier)) →
@@ -236,6 +264,7 @@ goes_on setup k n voter earlier now is has member h =
           ap (without gone) kept ∙ (with_gone gone (quiet now) n.slot.id one.m same ∙ (ap (without gone) (sym rests) ∙ h.spares gone same));
       ascends = λ ascend.
           subst (λ (x : Kept). Ascend (keys_of x.messages)) (sym kept) (still_ascends now.messages n.slot.id one.m (h.ascends ascend));
+      only = inr (one.m, kept ∙ (ap (λ (x : Kept). with_message x n.slot.id one.m) (sym rests) ∙ only_last k now n.slot.id one.m h.only));
     }
 
 pub hears : (setup : Setup) (k : Kept) (n : Note) → HasNoted setup k n → (voters : List ℕ) →
@@ -244,6 +273,44 @@ hears setup k n has [] members = begins setup k n has
 hears setup k n has (voter ∷ earlier) members =
     goes_on setup k n voter earlier (kept_after setup k (come (votes_by n earlier))) refl has (members voter (inl refl))
     (hears setup k n has earlier (λ other among. members other (inr among)))
+
+-- all that is kept, but for what was heard
+module _ (k now : Kept) (id : ℕ) (chain : List Decree) (unheard : message_at k id ≡ unseen) (known : (message_at now id).known ≡ Some chain)
+    (round : (message_at now id).round ≡ None) where
+  abbrev one : ℕ → Bool
+  one other = other == id
+
+  only_known : (now ≡ k) ⊎ ((m : Message) × (now ≡ with_message k id m)) →
+      cool one now ≡ cool one (with_message k id (record unseen { known = Some chain }))
+  only_known (inl same) =
+      let none : (message_at now id).known ≡ None = ap (λ (x : Kept). (message_at x id).known) same ∙ ap (λ (m : Message). m.known) unheard in
+      absurd (cc)
+  only_known (inr put) =
+      let there : message_at now id ≡ put.0 = ap (λ (x : Kept). message_at x id) put.1 ∙ message_here k id put.0 in
+      let self : one id ≡ true = eq-eqb id id refl in
+      let cooler : cooled put.0 ≡ cooled (record unseen { known = Some chain }) =
+      λ i. record unseen { known = (ap (λ (m : Message). m.known) (sym there) ∙ known) i; round = (ap (λ (m : Message). m.round) (sym there) ∙ round) i } in
+      ap (cool one) put.1
+      ∙ (sym (with_cool one k id put.0)
+      ∙ ((λ i. with_message (cool one k) id (cooled_if (self i) put.0))
+      ∙ ((λ i. with_message (cool one k) id (cooler i))
+      ∙ ((λ i. with_message (cool one k) id (cooled_if (sym self i) (record unseen { known = Some chain })))
+      ∙ with_cool one k id (record unseen { known = Some chain })))))
+
+decided : (setup : Setup) {k : Kept} (n : Note) (now : Kept) → HasNoted setup k n → Hears setup k n n.voters now →
+    (message_at now n.slot.id).known ≡ Some n.vote.chain
+decided setup n later has h = elim h.known [
+  | inl unknown ↦ let most = has.majority in let few = unknown.1 in absurd (cc)
+  | inr known ↦ known
+]
+
+pub knows_last : (setup : Setup) (k : Kept) (n : Note) → HasNoted setup k n →
+    cool (λ other. other == n.slot.id) (kept_after setup k (come (votes_of n)))
+    ≡ cool (λ other. other == n.slot.id) (with_message k n.slot.id (record unseen { known = Some n.vote.chain }))
+knows_last setup k n has =
+    let h = hears setup k n has n.voters has.members in
+    only_known k (kept_after setup k (come (votes_of n))) n.slot.id n.vote.chain has.unheard (decided setup n (kept_after setup k (come (votes_of n))) has h) h.round
+    h.only
 
 pub knows_again : (setup : Setup) (k : Kept) (n : Note) → IsFresh k n.slot.id → IsNote setup k n → StartsNoRound setup n.slot.id n.vote.chain →
     KnowsAgain setup k n
@@ -260,10 +327,8 @@ knows_again setup k n fresh note starts =
     } in
     let h = hears setup k n has n.voters has.members in
     record {
-      known = elim h.known [
-        | inl unknown ↦ let most = has.majority in let few = unknown.1 in absurd (cc)
-        | inr known ↦ known
-      ];
+      known = decided setup n (kept_after setup k (come (votes_of n))) has h;
+      kept = knows_last setup k n has;
       round = h.round;
       records = h.records;
       quiet = h.quiet;

@@ -1,5 +1,5 @@
 -- A node forgets what it heard of a message that is calm: what stands behind it then.
-use Rattle.std.proofs.Common.{◌≡◌, ℕ, Bool, true, false, List, [], ◌∷◌, refl, sym, subst, ap, ◌∙◌}
+use Rattle.std.proofs.Common.{◌≡◌, ℕ, Bool, true, false, List, refl, sym, subst, ap, ◌∙◌}
 use Rattle.std.specs.Prelude.{◌==◌, ◌||◌, if◌then◌else◌}
 use Rattle.std.proofs.lemmas.Bool.{eq-eqb, eqb-true}
 use Rattle.mc_model.specs.cluster.Steps.{Cluster}
@@ -8,33 +8,12 @@ use Rattle.node_model.specs.Granted.{is_open_in}
 use Rattle.node_model.specs.Kept.{Kept, message_at}
 use Rattle.node_model.specs.Message.{Message}
 use Rattle.rest_laws.specs.Behind.{StandsBehind}
-use Rattle.rest_laws.specs.Cooled.{AreCalm, AreShut, IsCalm, cool, cooled, cooled_if}
+use Rattle.rest_laws.specs.Cooled.{AreCalm, AreShut, IsCalm, cool, cooled_if}
 use Rattle.rest_laws.specs.Remains.{Cools, Remains, and_also, remains_then}
 use Rattle.rest_laws.specs.Without.{without}
-use Rattle.rest_laws.proofs.cooled.Entries.{cool_all, message_cool}
+use Rattle.rest_laws.proofs.cooled.Entries.{cool_more, message_cool}
 use Rattle.rest_laws.proofs.runs.Alike.{calm_too, message_is}
 use Rattle.rest_laws.proofs.runs.Stepping.{same_there}
-
--- ---- what was cold for fewer is cold for more
-
-module _ (fewer more : ℕ → Bool) (covers : (id : ℕ) → fewer id ≡ true → more id ≡ true) where
-  both_cool : (id : ℕ) (m : Message) → cooled_if (more id) (cooled_if (fewer id) m) ≡ cooled_if (more id) m
-  both_cool id m = by (fewer id) refl
-    where
-      twice : (b : Bool) → b ≡ true → cooled_if b (cooled m) ≡ cooled_if b m
-      twice true is = refl
-      twice false is = absurd (cc)
-
-      by : (b : Bool) → fewer id ≡ b → cooled_if (more id) (cooled_if b m) ≡ cooled_if (more id) m
-      by true is = twice (more id) (covers id is)
-      by false is = refl
-
-  entries_more : (es : List (ℕ × Message)) → cool_all more (cool_all fewer es) ≡ cool_all more es
-  entries_more [] = refl
-  entries_more (e ∷ es) = λ i. (e.0, both_cool e.0 e.1 i) ∷ entries_more es i
-
-  cool_more : (k : Kept) → cool more (cool fewer k) ≡ cool more k
-  cool_more k = λ i. record k { messages = entries_more k.messages i }
 
 covers_some : (some : ℕ → Bool) (id other : ℕ) → some other ≡ true → and_also some id other ≡ true
 covers_some some id other is = ap (λ (b : Bool). b || (other == id)) is
