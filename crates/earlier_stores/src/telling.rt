@@ -25,10 +25,10 @@ pub fn tell(rt: &HostRuntime, node: usize, outputs: &Outputs) {
 }
 
 fn tell_reply(rt: &HostRuntime, node: usize, reply: &Reply) {
-    match &reply.answer {
+    match reply.answer() {
         waiting_requests::Answer::Shown(chain) => tell_state(rt, node, "", chain),
         _ => {
-            let _ = println!(rt; "node {node}: {} is not shown", reply.id.number());
+            let _ = println!(rt; "node {node}: {} is not shown", reply.id().number());
         }
     }
 }

@@ -22,8 +22,8 @@ pub(crate) fn reply_octets(
 ) -> Result<Vec<u8>, AllocError>
     ensures { IfOk result (λ octets. octets.items ≡ octets_of (reply_pdu request.requested request.sequence reply.now.id (answer_given reply.now.answer))) }
 {
-    let id = reply.id;
-    match &reply.answer {
+    let id = reply.id();
+    match reply.answer() {
         Given::Accepted => answer_octets(alloc, request, id, Answer::Accepted),
         Given::Shown(chain) => answer_octets(alloc, request, id, shown(chain)),
         Given::Removed(_) => answer_octets(alloc, request, id, Answer::Removed),

@@ -183,7 +183,7 @@ impl Service {
         ensures sending { result ≡ reply_to reply (owner_of self.old.sessions reply.ticket) }
         ensures after { self.new ≡ record self.old { sessions = replied self.old.sessions reply.ticket (owner_of self.old.sessions reply.ticket) } }
     {
-        let Some(owner) = self.take_request(reply.ticket) else {
+        let Some(owner) = self.take_request(reply.ticket()) else {
             drop(reply);
             return None;
         };

@@ -20,6 +20,8 @@ mod reader;
 #[cfg(test)]
 mod replays;
 #[cfg(test)]
+mod replies;
+#[cfg(test)]
 mod same;
 #[cfg(test)]
 mod seated;

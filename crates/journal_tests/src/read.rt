@@ -1,6 +1,7 @@
 //! What a reader finds in entries that no nodes leave.
 
 use crate::reader::{Looks, Reader, Wrong};
+use crate::replies::{accepted, removed, shown, unknown};
 use crate::same::assert_same;
 use delivery::Outcome;
 use fate_chain::{Author, Chain, Decree, ErrorCode, Final, Kind};
@@ -12,7 +13,7 @@ use pdu_tables::Status;
 use std::alloc::Global;
 use std::process::Abort;
 use std::sync::Arc;
-use waiting_requests::{Answer, Reply};
+use waiting_requests::Reply;
 use world::Step;
 
 fn first(rt: &impl Abort) -> NodeNo {
@@ -163,47 +164,19 @@ impl Read {
     }
 
     fn accept(&mut self, rt: &impl Abort) {
-        self.reply(
-            rt,
-            Reply {
-                ticket: 1,
-                id: id(rt),
-                answer: Answer::Accepted,
-            },
-        );
+        self.reply(rt, accepted(rt, self.alloc, taken(rt, self.alloc)));
     }
 
     fn miss(&mut self, rt: &impl Abort) {
-        self.reply(
-            rt,
-            Reply {
-                ticket: 1,
-                id: id(rt),
-                answer: Answer::Unknown,
-            },
-        );
+        self.reply(rt, unknown(rt, self.alloc, id(rt)));
     }
 
     fn show(&mut self, rt: &impl Abort, chain: Chain) {
-        self.reply(
-            rt,
-            Reply {
-                ticket: 1,
-                id: chain.id(),
-                answer: Answer::Shown(chain),
-            },
-        );
+        self.reply(rt, shown(rt, self.alloc, chain));
     }
 
     fn remove(&mut self, rt: &impl Abort, chain: Chain) {
-        self.reply(
-            rt,
-            Reply {
-                ticket: 1,
-                id: chain.id(),
-                answer: Answer::Removed(chain),
-            },
-        );
+        self.reply(rt, removed(rt, self.alloc, chain));
     }
 
     /// It found this alone.

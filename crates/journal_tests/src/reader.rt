@@ -156,11 +156,11 @@ impl Reader {
     }
 
     fn read_reply(&mut self, rt: &impl Abort, node: NodeNo, reply: &Reply) {
-        if let Some(asked) = self.answered(node, reply.ticket) {
-            self.compare(rt, &asked.told, &reply.answer);
+        if let Some(asked) = self.answered(node, reply.ticket()) {
+            self.compare(rt, &asked.told, reply.answer());
         }
-        match &reply.answer {
-            Answer::Accepted => self.accept(rt, reply.id),
+        match reply.answer() {
+            Answer::Accepted => self.accept(rt, reply.id()),
             Answer::Removed(chain) => {
                 self.looks.cancels = self.looks.cancels.saturating_add(1);
                 self.state(rt, chain);

@@ -40,15 +40,15 @@ fn with_state(word: &'static str, number: u64, chain: &Chain) -> Answer {
 
 /// A reply, with its ticket: behind that `Accepted` has the id of the message, and `Shown` its state.
 fn replied(reply: &Reply) -> Answer {
-    match &reply.answer {
-        waiting_requests::Answer::Accepted => ("Accepted", [reply.ticket, reply.id.number(), 0, 0]),
-        waiting_requests::Answer::Shown(chain) => with_state("Shown", reply.ticket, chain),
-        waiting_requests::Answer::Removed(_) => with_number("Removed", reply.ticket),
-        waiting_requests::Answer::Kept(_) => with_number("Kept", reply.ticket),
-        waiting_requests::Answer::NotOwner => with_number("NotOwner", reply.ticket),
-        waiting_requests::Answer::NotMatched(_) => with_number("NotMatched", reply.ticket),
-        waiting_requests::Answer::Unknown => with_number("Unknown", reply.ticket),
-        waiting_requests::Answer::TooLate => with_number("TooLate", reply.ticket),
+    match reply.answer() {
+        waiting_requests::Answer::Accepted => ("Accepted", [reply.ticket(), reply.id().number(), 0, 0]),
+        waiting_requests::Answer::Shown(chain) => with_state("Shown", reply.ticket(), chain),
+        waiting_requests::Answer::Removed(_) => with_number("Removed", reply.ticket()),
+        waiting_requests::Answer::Kept(_) => with_number("Kept", reply.ticket()),
+        waiting_requests::Answer::NotOwner => with_number("NotOwner", reply.ticket()),
+        waiting_requests::Answer::NotMatched(_) => with_number("NotMatched", reply.ticket()),
+        waiting_requests::Answer::Unknown => with_number("Unknown", reply.ticket()),
+        waiting_requests::Answer::TooLate => with_number("TooLate", reply.ticket()),
     }
 }
 

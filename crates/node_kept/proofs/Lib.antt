@@ -7,6 +7,7 @@ pub mod Leaving
 pub mod Grants
 pub mod Grantable
 pub mod Tells
+pub mod Verdicts
 pub mod Knowing
 pub mod Arrivals
 pub mod Listing

@@ -160,13 +160,12 @@ impl Kept {
         ensures { IfOk result (IsVerdict self.now.setup.nodes (known_of (option_copied known.entry)) (held_of held)) }
     {
         let ticket = held.ticket();
-        let id = held.id();
         let mut replies = Vec::new(self.alloc);
-        let Some(answer) = held.answer(self.nodes(), known)? else {
+        let Some(reply) = held.reply_now(self.nodes(), known)? else {
             let held = Box::new(self.alloc, held)?;
             return Ok((replies, QueueChange::Replace(held)));
         };
-        replies.push(Reply { ticket, id, answer })?;
+        replies.push(reply)?;
         Ok((replies, QueueChange::Remove(ticket)))
     }
 

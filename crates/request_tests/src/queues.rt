@@ -117,9 +117,9 @@ fn three(rt: &impl Abort, alloc: Global) -> Queue {
 fn three_in(rt: &impl Abort, replies: &[Reply]) -> [(u64, (&'static str, u8)); 3] {
     match replies {
         [first, second, third] => [
-            (first.ticket, said(Some(&first.answer))),
-            (second.ticket, said(Some(&second.answer))),
-            (third.ticket, said(Some(&third.answer))),
+            (first.ticket(), said(Some(first.answer()))),
+            (second.ticket(), said(Some(second.answer()))),
+            (third.ticket(), said(Some(third.answer()))),
         ],
         _ => panic!(rt; "three replies"),
     }

@@ -1,7 +1,7 @@
 //! Answers and replies that are the same.
 
 use crate::same::assert_same;
-use crate::values::{Known, chain, id};
+use crate::values::{Known, asking, chain, id, tell};
 use fate_chain::Chain;
 use std::alloc::Global;
 use std::process::Abort;
@@ -69,30 +69,32 @@ fn each_answer_is_itself_alone(rt: HostRuntime) {
     }
 }
 
-fn accepted(rt: &impl Abort, ticket: u64) -> Reply {
-    Reply {
-        ticket,
-        id: id(rt),
-        answer: Answer::Accepted,
-    }
-}
-
-fn too_late(rt: &impl Abort) -> Reply {
-    Reply {
-        ticket: 1,
-        id: id(rt),
-        answer: Answer::TooLate,
-    }
+// That there is no such message: a node told the query_sm of a ticket so, of one.
+fn unknown(rt: &impl Abort, alloc: Global, ticket: u64) -> Reply {
+    let mut held = asking(rt, alloc, ticket, b"sme1");
+    tell(rt, alloc, &mut held, 1, Known::Nothing);
+    let reply = held.reply_now(1, None).expect(rt, "memory");
+    drop(held);
+    reply.expect(rt, "a reply")
 }
 
 #[test]
 fn a_reply_is_of_one_ticket_and_one_answer(rt: HostRuntime) {
-    let reply = accepted(&rt, 1);
+    let alloc = rt.alloc();
+    let reply = unknown(&rt, alloc, 1);
     let is = [
-        reply.is(&accepted(&rt, 1)),
-        reply.is(&accepted(&rt, 2)),
-        reply.is(&too_late(&rt)),
+        reply.is(&unknown(&rt, alloc, 1)),
+        reply.is(&unknown(&rt, alloc, 2)),
+        reply.is(&Reply::too_late(1, id(&rt))),
     ];
     drop(reply);
     assert_same(&rt, &is, &[true, false, false]);
+}
+
+#[test]
+fn a_reply_that_is_too_late_is_of_its_ticket(rt: HostRuntime) {
+    let reply = Reply::too_late(7, id(&rt));
+    let told = (reply.ticket(), reply.id() == id(&rt), reply.answer().is(&Answer::TooLate));
+    drop(reply);
+    assert_same(&rt, &told, &(7, true, true));
 }

@@ -154,7 +154,7 @@ fn expire(rt: &impl Abort, queue: &mut Queue, seconds: u32) -> (&'static str, us
 fn only(rt: &impl Abort, replies: Vec<Reply>) -> &'static str {
     let word = match replies.as_slice() {
         [] => "waits",
-        [reply] if reply.ticket == 1 && reply.id == id(rt) => said(Some(&reply.answer)).0,
+        [reply] if reply.ticket() == 1 && reply.id() == id(rt) => said(Some(reply.answer())).0,
         _ => panic!(rt; "one reply to ticket 1"),
     };
     drop(replies);

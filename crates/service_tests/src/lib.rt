@@ -6,6 +6,8 @@ mod calls;
 #[cfg(test)]
 mod octets;
 #[cfg(test)]
+mod replies;
+#[cfg(test)]
 mod same;
 #[cfg(test)]
 mod steps;

@@ -1,14 +1,15 @@
 //! What is done with a service on which there is one session, step by step.
 
 use crate::octets::{ATTEMPTED, TOLD};
-use crate::values::{at, chain, id, slot, sme1};
+use crate::replies::{accepted, shown};
+use crate::values::{at, chain, slot, sme1};
 use config::Config;
 use esme_service::{Asked, Heard, PushedOn, Sending, Service};
 use pdu_tables::Status;
 use sessions::Outgoing;
 use std::alloc::Global;
 use std::process::Abort;
-use waiting_requests::{Answer, Reply};
+use waiting_requests::Reply;
 
 /// What all steps are given.
 #[derive(Clone, Copy)]
@@ -137,26 +138,6 @@ fn ask(
     told
 }
 
-/// That the message is taken of the request of a ticket.
-fn accepted(rt: &impl Abort, ticket: u64) -> Reply {
-    Reply {
-        ticket,
-        id: id(rt),
-        answer: Answer::Accepted,
-    }
-}
-
-/// The state of the message.
-fn shown(rt: &impl Abort, alloc: Global, ticket: u64) -> Reply {
-    let chain = chain(rt, alloc, ATTEMPTED);
-    let id = chain.id();
-    Reply {
-        ticket,
-        id,
-        answer: Answer::Shown(chain),
-    }
-}
-
 /// What goes out as the node replies to a request.
 fn reply(
     rt: &impl Abort,
@@ -254,7 +235,7 @@ pub fn take(
         Step::HearsWrongLength => heeded(rt, scene, service.hear_wrong_length(1), out).0,
         Step::Waits(ticket) => ask(rt, scene, service, (frame, Ok(ticket)), out),
         Step::Refuses(status) => ask(rt, scene, service, (frame, Err(status)), out),
-        Step::Accepts(ticket) => reply(rt, alloc, service, accepted(rt, ticket), out),
+        Step::Accepts(ticket) => reply(rt, alloc, service, accepted(rt, alloc, ticket), out),
         Step::Shows(ticket) => reply(rt, alloc, service, shown(rt, alloc, ticket), out),
         Step::Attempts => attempt(rt, alloc, service, out),
         Step::Tells => tell(rt, alloc, service, out),

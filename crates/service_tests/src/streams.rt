@@ -15,7 +15,7 @@ use std::alloc::Global;
 use std::io;
 use std::io::{ErrorKind, Read, Write};
 use std::process::Abort;
-use waiting_requests::{Answer, Reply};
+use waiting_requests::Reply;
 
 /// What the ESME sends, and what it gets.
 const SENT: &[&[u8]] = &[BIND, SUBMIT, QUERY, DELIVERY_ANSWER];
@@ -118,12 +118,7 @@ fn play(
 
 /// Whether a reply to the request of a ticket goes out.
 fn is_replied(rt: &impl Abort, service: &mut Service, ticket: u64) -> bool {
-    let reply = Reply {
-        ticket,
-        id: id(rt),
-        answer: Answer::Unknown,
-    };
-    service.reply(reply).is_some()
+    service.reply(Reply::too_late(ticket, id(rt))).is_some()
 }
 
 /// How many attempts are given up.

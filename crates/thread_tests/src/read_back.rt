@@ -24,7 +24,7 @@ use waiting_requests::Answer;
 /// Whether a slip has the ESME_ROK to a submit_sm.
 fn is_accepted(slip: &Slip) -> bool {
     match slip.outputs().replies.as_slice() {
-        [reply] => reply.answer.is(&Answer::Accepted),
+        [reply] => reply.answer().is(&Answer::Accepted),
         _ => false,
     }
 }

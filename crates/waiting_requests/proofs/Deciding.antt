@@ -1,10 +1,10 @@
 -- What a cancel_sm that was settled is answered by a chain.
-use Rattle.std.proofs.Common.{◌≡◌, ℕ, Bool, true, false, List, [], ◌∷◌, slice_get, Option, Some, sym, ap, ◌∙◌}
+use Rattle.std.proofs.Common.{◌≡◌, ℕ, Bool, true, List, [], ◌∷◌, slice_get, Option, Some, sym, ap, ◌∙◌}
 use Rattle.std.specs.Prelude.{if◌then◌else◌}
 use Rattle.mc_model.specs.message.Submission.{Submission}
 use Rattle.mc_model.specs.message.Decree.{Decree, Final, Kind}
 use Rattle.mc_model.specs.message.Chain.{final_in, taken_in}
-use Rattle.mc_model.specs.node.Replies.{Answer, NotMatched}
+use Rattle.mc_model.specs.node.Replies.{NotMatched}
 use Rattle.node_model.specs.Answers.{cancel_answer, cancel_answer_of, cancel_decided, is_match}
 
 -- if it matches, by the state and the newest decree

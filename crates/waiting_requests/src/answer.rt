@@ -63,16 +63,52 @@ impl Answer {
     }
 }
 
-/// The answer to the request of a ticket, about the message of an id. It shows no chain of another message.
+/// The answer to the request of a ticket, about the message of an id. It shows no chain of another message. Only a request that waits gives one, by what it
+/// was told and what is known (`Held::reply_now`, `Queue::replies`, `Queue::late`), but for the one that tells that it is too late.
 #[derive(Drop)]
 pub struct Reply {
-    pub ticket: u64,
-    pub id: MsgId,
-    pub answer: Answer,
+    pub(crate) ticket: u64,
+    pub(crate) id: MsgId,
+    pub(crate) answer: Answer,
     pub ghost about: { IsAbout id answer },
 }
 
 impl Reply {
+    ghost use Rattle.mc_model.specs.node.Replies.{TooLate};
+    ghost use Rattle.waiting_requests.specs.Replying.{reply_given};
+
+    /// It is too late to answer the request of a ticket, which is about the message of an id.
+    pub fn too_late(ticket: u64, id: MsgId) -> Reply
+        ensures { reply_given result ≡ record { ticket = ticket; id = id; answer = TooLate } }
+    {
+        Reply {
+            ticket,
+            id,
+            answer: Answer::TooLate,
+        }
+    }
+
+    /// The ticket of the request.
+    pub fn ticket(&self) -> u64
+        ensures { result ≡ self.now.ticket }
+    {
+        self.ticket
+    }
+
+    /// The id of the message that the request is about.
+    pub fn id(&self) -> MsgId
+        ensures { result ≡ self.now.id }
+    {
+        self.id
+    }
+
+    /// What the request is answered.
+    pub fn answer(&self) -> &Answer
+        ensures { result.now ≡ self.now.answer }
+    {
+        &self.answer
+    }
+
     /// Whether it is the same reply as the other: to the request of the same ticket, with the same answer about the same id. It takes no
     /// memory.
     pub fn is(&self, other: &Reply) -> bool

@@ -244,6 +244,16 @@ impl Held {
         Verdict::of(&self.request, self.settled, reached, chain)
     }
 
+    /// The reply to it by what is known of its message; none if it still waits. An `Err` is want of memory, which only the copy of a chain needs.
+    pub fn reply_now(&self, nodes: u8, known: Option<&Chain>) -> Result<Option<Reply>, AllocError>
+        requires { IfSome known (λ chain. chain.now.id ≡ id_of (held_of self.now)) }
+        ensures reply { IfOk result (λ reply. option_map reply_given reply
+            ≡ reply_with (held_of self.now) (answer_to nodes (known_of (option_copied known.entry)) (held_of self.now))) }
+        ensures memory { OnErr result (ShowsChain (answer_to nodes (known_of (option_copied known.entry)) (held_of self.now))) }
+    {
+        Ok(self.reply_with(self.answer(nodes, known)?))
+    }
+
     /// Whether it still waits once this chain is known: it is about another message, or has no answer by it. It takes no memory.
     pub(crate) fn still_waits(&self, nodes: u8, chain: &Chain) -> bool
         ensures { result ≡ still_waits nodes (Some chain.now.decrees) chain.now.id (held_of self.now) }

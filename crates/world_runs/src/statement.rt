@@ -58,8 +58,8 @@ fn add_replies(
     ensures { OnOk result (statements.new.items ≡ statements.old.items ++ flat_map (stated_replied step) (map reply_given replies.now)) }
 {
     for reply in replies {
-        if let Answer::Shown(chain) | Answer::Removed(chain) = &reply.answer {
-            add_chain(statements, step, reply.id, chain)?;
+        if let Answer::Shown(chain) | Answer::Removed(chain) = reply.answer() {
+            add_chain(statements, step, reply.id(), chain)?;
         }
     }
     Ok(())

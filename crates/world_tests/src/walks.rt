@@ -57,7 +57,7 @@ pub enum Said {
 pub type Row = (Comes, Answer);
 
 fn word_of(reply: &Reply) -> Said {
-    match &reply.answer {
+    match reply.answer() {
         waiting_requests::Answer::Accepted => Said::Accepted,
         waiting_requests::Answer::Shown(_) => Said::Shown,
         waiting_requests::Answer::Removed(_) => Said::Removed,
@@ -68,7 +68,7 @@ fn word_of(reply: &Reply) -> Said {
 fn answer_in(given: &Given) -> Answer {
     match (given.ticket, given.replies.as_slice(), &given.granted) {
         (Some(ticket), [], None) => Answer::Waits(ticket),
-        (None, [reply], None) => Answer::Replied(reply.ticket, word_of(reply)),
+        (None, [reply], None) => Answer::Replied(reply.ticket(), word_of(reply)),
         (None, [], Some(_)) => Answer::Granted,
         (None, [], None) => Answer::Nothing,
         _ => Answer::Other,

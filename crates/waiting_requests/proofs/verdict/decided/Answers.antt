@@ -1,6 +1,5 @@
 use Rattle.std.proofs.Common.{◌≡◌, true, sym, ap, ◌∙◌}
 use Rattle.mc_model.specs.message.Decree.{Decree}
-use Rattle.mc_model.specs.message.Submission.{Submission}
 use Rattle.node_model.specs.Answers.{is_match}
 use Rattle.waiting_requests.proofs.Deciding.{decided_so}
 use Rattle.waiting_requests.proofs.verdict.decided.Goals as goal
