@@ -1,3 +1,5 @@
 pub mod Answering
+pub mod Belonging
+pub mod Lacking
 pub mod TakingBack
 pub mod Telling

@@ -1,4 +1,5 @@
 pub mod FrameQueues
+pub mod Frames
 pub mod Outboxes
 pub mod OutboxLaws
 pub mod Places

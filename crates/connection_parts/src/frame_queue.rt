@@ -4,7 +4,7 @@ ghost use Rattle.std.specs.Prelude.{◌≡◌, [], false, IfOk};
 ghost use Rattle.std.specs.List.{slice_get};
 ghost use Rattle.connection_parts.specs.FrameQueues.{after_put, after_take, can_put, cut, has_room, is_idle, shut};
 
-use crate::outbox::Frame;
+use crate::frame::Frame;
 use std::alloc::{AllocError, Global};
 use std::collections::VecDeque;
 use std::marker::Model;

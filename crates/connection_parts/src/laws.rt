@@ -1,7 +1,7 @@
 //! The laws of what is kept of a connection: nothing to call, but to cite.
 
 ghost use Rattle.connection_parts.specs.Laws.{OnlyWhatWasSentIsAnswered};
-ghost use Rattle.connection_parts.specs.OutboxLaws.{WhatWasTakenBackIsNeverTaken};
+ghost use Rattle.connection_parts.specs.OutboxLaws.{NoFrameOfAnotherSessionIsTaken, WhatWasTakenBackIsNeverTaken};
 ghost use Rattle.connection_parts.specs.TimepieceLaws.{TimeIsNearLeftOrAwaited};
 
 /// What `Place::told` gives answers a deliver_sm that went out: after any calls, `Place::send` was true for its job before the answer came.
@@ -13,6 +13,11 @@ pub fn only_what_was_sent_is_answered()
 /// sequence_number is put.
 pub fn what_was_taken_back_is_never_taken()
     ensures { WhatWasTakenBackIsNeverTaken }
+{}
+
+/// What `Outbox::take` gives is a frame of the session for which the outbox was made, after any calls.
+pub fn no_frame_of_another_session_is_taken()
+    ensures { NoFrameOfAnotherSessionIsTaken }
 {}
 
 /// What a timepiece tells is within five seconds of the system's clock; or that clock has been apart for less than ten minutes, and time goes as the clock says

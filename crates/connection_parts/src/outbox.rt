@@ -2,28 +2,13 @@
 
 ghost use Rattle.std.specs.Prelude.{◌≡◌, [], None, false, IfOk};
 ghost use Rattle.std.specs.List.{slice_get};
-ghost use Rattle.connection_parts.specs.FrameQueues.{after_put, can_put, cut, has_room, is_idle, shut};
-ghost use Rattle.connection_parts.specs.Outboxes.{after_take, is_of, withdrawal, without};
+ghost use Rattle.connection_parts.specs.FrameQueues.{cut, has_room, is_idle, shut};
+ghost use Rattle.connection_parts.specs.Outboxes.{after_put, after_take, can_put, withdrawal, without};
 
+use crate::frame::Frame;
 use crate::frame_queue::FrameQueue;
 use std::alloc::{AllocError, Global};
 use std::marker::Model;
-
-/// A frame that is to be written: its octets, and, if it is the deliver_sm of an attempt, the sequence_number with which that was pushed.
-#[derive(Drop)]
-pub struct Frame {
-    pub octets: Vec<u8>,
-    pub attempt: Option<u32>,
-}
-
-impl Frame {
-    /// Whether it is the deliver_sm of the attempt that was pushed with this sequence_number.
-    pub(crate) fn is_of(&self, sequence: u32) -> bool
-        ensures { result ≡ is_of sequence self.now }
-    {
-        self.attempt == Some(sequence)
-    }
-}
 
 /// What becomes of the deliver_sm of an attempt that is given up.
 #[derive(Clone, Copy, Debug, PartialEq, Eq)]
@@ -36,9 +21,10 @@ pub enum Withdrawal {
     Over,
 }
 
-/// What waits to be written on a connection, and which attempt's deliver_sm is being written.
+/// What waits to be written on the connection of a session, and which attempt's deliver_sm is being written.
 #[derive(Drop)]
 pub struct Outbox {
+    number: u8,
     frames: FrameQueue<Frame>,
     in_hand: Option<u32>,
 }
@@ -48,26 +34,32 @@ impl Model for Outbox {
 
     ghost Value = { Outbox };
 
-    ghost view = { λ outbox. record { frames = outbox.frames; in_hand = outbox.in_hand } };
+    ghost view = { λ outbox. record { number = outbox.number; frames = outbox.frames; in_hand = outbox.in_hand } };
 }
 
 impl Outbox {
-    /// Nothing waits, and nothing is being written.
-    pub fn make(alloc: Global) -> Result<Outbox, AllocError>
+    /// That of the session of a number: nothing waits, and nothing is being written.
+    pub fn make(alloc: Global, number: u8) -> Result<Outbox, AllocError>
+        ensures number { IfOk result (λ outbox. outbox.number ≡ number) }
         ensures frames { IfOk result (λ outbox. outbox.frames ≡ record { frames = []; is_shut = false }) }
         ensures in_hand { IfOk result (λ outbox. outbox.in_hand ≡ None) }
     {
         Ok(Outbox {
+            number,
             frames: FrameQueue::make(alloc)?,
             in_hand: None,
         })
     }
 
-    /// Puts a frame at the end. False, and it is dropped, if the outbox is shut or 64 frames wait. It takes no memory.
+    /// Puts a frame at the end. False, and it is dropped, if it is one of another session, the outbox is shut or 64 frames wait. It takes no memory.
     pub fn put(&mut self, frame: Frame) -> bool
-        ensures put { result ≡ can_put self.old.frames }
-        ensures after { self.new ≡ record self.old { frames = after_put self.old.frames frame } }
+        ensures put { result ≡ can_put self.old frame }
+        ensures after { self.new ≡ after_put self.old frame }
     {
+        if frame.number() != self.number {
+            drop(frame);
+            return false;
+        }
         self.frames.put(frame)
     }
 
@@ -77,7 +69,7 @@ impl Outbox {
         ensures others { self.new ≡ after_take self.old }
     {
         let frame = self.frames.take();
-        self.in_hand = frame.as_ref().and_then(|frame| frame.attempt);
+        self.in_hand = frame.as_ref().and_then(|frame| frame.attempt());
         frame
     }
 

@@ -3,9 +3,8 @@
 ghost use Rattle.std.specs.Prelude.{◌≡◌};
 ghost use Rattle.connection_parts.specs.Places as places;
 
-use esme_service::PushedOn;
+use esme_service::{HeardPdu, PushedOn};
 use mc_types::Slot;
-use pdu_codec::Pdu;
 use std::marker::Model;
 use std::mem;
 
@@ -32,7 +31,7 @@ enum Step {
     /// Its deliver_sm may have gone out, and is not answered yet.
     Sent(Job),
     /// It is over, with the answer of the ESME if there was one.
-    Told(Option<Pdu>),
+    Told(Option<HeardPdu>),
 }
 
 impl Step {
@@ -57,7 +56,7 @@ impl Step {
     }
 
     /// The step once its job is over with this answer: one that is not taken yet is taken first.
-    fn over(&self, answer: Option<Pdu>) -> Step
+    fn over(&self, answer: Option<HeardPdu>) -> Step
         ensures { result ≡ places.over self.now answer }
     {
         if let Step::Given(job) = self {
@@ -72,7 +71,7 @@ impl Step {
         ensures { result ≡ places.has self.now sequence }
     {
         self.job()
-            .is_some_and(|job| job.pushed.sequence == sequence)
+            .is_some_and(|job| job.pushed.sequence() == sequence)
     }
 }
 
@@ -177,7 +176,7 @@ impl Place {
 
     /// An answer came with this sequence_number. It concludes a job that has this number: with the PDU, if the deliver_sm was sent; else without
     /// it, since nothing can answer what was not sent. False, and nothing changes, if no such job is under way; the PDU is dropped then.
-    pub fn answer(&mut self, sequence: u32, pdu: Pdu) -> bool
+    pub fn answer(&mut self, sequence: u32, pdu: HeardPdu) -> bool
         ensures concluded { result ≡ places.has self.old.step sequence }
         ensures after { self.new ≡ places.answered self.old sequence pdu }
     {
@@ -214,7 +213,7 @@ impl Place {
     }
 
     /// The answer with which the job ended, which is given once; none if it ended without one, or has not ended.
-    pub fn told(&mut self) -> Option<Pdu>
+    pub fn told(&mut self) -> Option<HeardPdu>
         ensures answer { result ≡ places.answer_of self.old.step }
         ensures after { self.new ≡ places.told self.old }
     {

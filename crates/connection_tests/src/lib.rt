@@ -6,11 +6,15 @@ mod fitting;
 #[cfg(test)]
 mod frame_queues;
 #[cfg(test)]
+mod frames;
+#[cfg(test)]
 mod numbers;
 #[cfg(test)]
 mod outboxes;
 #[cfg(test)]
 mod places;
+#[cfg(test)]
+mod pushes;
 #[cfg(test)]
 mod same;
 #[cfg(test)]

@@ -1,15 +1,16 @@
 //! What waits to be written.
 
+use crate::pushes::{self, NUMBER};
 use crate::same::assert_same;
-use connection_parts::{Frame, Outbox, Withdrawal};
+use connection_parts::{Outbox, Withdrawal};
 use std::alloc::Global;
 use std::process::Abort;
 
 fn outbox(rt: &impl Abort, alloc: Global) -> Outbox {
-    Outbox::make(alloc).expect(rt, "an outbox")
+    Outbox::make(alloc, NUMBER).expect(rt, "an outbox")
 }
 
-/// Puts a frame that is this octet alone: the deliver_sm of the attempt with this sequence_number, if there is one.
+/// Puts a frame that ends with this octet: the deliver_sm of the attempt with this sequence_number, if there is one.
 fn put(
     rt: &impl Abort,
     alloc: Global,
@@ -17,13 +18,15 @@ fn put(
     octet: u8,
     attempt: Option<u32>,
 ) -> bool {
-    let octets = [octet].to_vec(alloc).expect(rt, "a frame");
-    outbox.put(Frame { octets, attempt })
+    outbox.put(match attempt {
+        Some(sequence) => pushes::attempt(rt, alloc, sequence, octet),
+        None => pushes::linked(rt, alloc, NUMBER, octet),
+    })
 }
 
-/// The octet of the oldest frame.
+/// The last octet of the oldest frame.
 fn taken(outbox: &mut Outbox) -> Option<u8> {
-    outbox.take()?.octets.first().copied()
+    outbox.take()?.octets().last().copied()
 }
 
 #[test]
@@ -72,4 +75,14 @@ fn an_outbox_is_shut_and_cut_as_a_queue(rt: HostRuntime) {
         &(late, shut, cut),
         &(false, (false, true, Some(1)), None),
     );
+}
+
+#[test]
+fn a_frame_of_another_session_is_not_put(rt: HostRuntime) {
+    let mut outbox = outbox(&rt, rt.alloc());
+    let other = outbox.put(pushes::linked(&rt, rt.alloc(), NUMBER + 1, 1));
+    let own = put(&rt, rt.alloc(), &mut outbox, 2, None);
+    let taken = [taken(&mut outbox), taken(&mut outbox)];
+    drop(outbox);
+    assert_same(&rt, &([other, own], taken), &([false, true], [Some(2), None]));
 }

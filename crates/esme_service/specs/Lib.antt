@@ -4,6 +4,7 @@ pub mod Responses
 pub mod Reports
 pub mod Sessions
 pub mod Replies
+pub mod Coming
 pub mod Hearing
 pub mod Told
 pub mod Pushing

@@ -3,8 +3,8 @@
 ghost use Rattle.std.specs.Prelude.{◌≡◌};
 ghost use Rattle.sessions.specs.declared.response.Response.TheVariants.{Refused};
 
+use crate::heard_pdu::HeardPdu;
 use desk::Request;
-use pdu_codec::Pdu;
 use pdu_tables::Status;
 use sessions::{Abandoned, Outgoing, Pushed, Requested, Response};
 
@@ -19,7 +19,7 @@ pub enum Heard {
     /// `Asked::refusal` goes out.
     Request(Asked, Request),
     /// The ESME answers what was pushed, by this PDU: a deliver_sm_resp (SMPP 3.4, section 4.6.2) or a generic_nack (section 4.3.1).
-    Answer(Pushed, Pdu),
+    Answer(Pushed, HeardPdu),
     /// This goes out, and the session is gone; these pushed requests get no answer any more.
     Gone(Outgoing, Abandoned),
 }

@@ -4,10 +4,12 @@ ghost use Rattle.std.specs.Prelude.{◌≡◌, Err, Ok, IfOk, IsOk, OnErr, OnOk}
 ghost use Rattle.accounts.specs.Routes.{target_of};
 ghost use Rattle.pdu_codec.specs.Pdu.{read_pdu};
 ghost use Rattle.sessions.specs.Steps.{on_pdu, on_wrong_length};
+ghost use Rattle.esme_service.specs.Coming.{HasCome};
 ghost use Rattle.esme_service.specs.Hearing.{asked_by, done_by, heard_in, heard_of, request_of, told_by};
 ghost use Rattle.esme_service.specs.Settings.{settings_of};
 
 use crate::heard::{Asked, Heard};
+use crate::heard_pdu::HeardPdu;
 use accounts::Routes;
 use config::Config;
 use desk::Request;
@@ -48,6 +50,7 @@ pub(crate) fn hear_wrong_length(session: &mut Session) -> Heard
 
 /// A PDU came on a session. An `Err` is want of memory, and changes nothing.
 fn hear_pdu(config: &Config, session: &mut Session, pdu: Pdu) -> Result<Heard, AllocError>
+    requires { HasCome pdu }
     ensures next { OnOk result (session.new ≡ (on_pdu config.now.accounts session.old pdu).next) }
     ensures heard { IfOk result (λ heard. heard ≡ heard_in (settings_of config.now) (Ok pdu) (on_pdu config.now.accounts session.old pdu)) }
     ensures same { OnErr result (session.new ≡ session.old) }
@@ -58,7 +61,7 @@ fn hear_pdu(config: &Config, session: &mut Session, pdu: Pdu) -> Result<Heard, A
     };
     match reaction {
         Reaction::Ask(requested) => ask(config, session, requested, pdu),
-        Reaction::Answered(pushed) => Ok(Heard::Answer(pushed, pdu)),
+        Reaction::Answered(pushed) => Ok(Heard::Answer(pushed, HeardPdu::of(pdu))),
         other => {
             drop(pdu);
             Ok(told(other))

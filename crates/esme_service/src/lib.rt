@@ -3,6 +3,7 @@
 
 mod delivering;
 mod heard;
+mod heard_pdu;
 mod hearing;
 mod overdue;
 mod owner;
@@ -14,6 +15,7 @@ mod service;
 mod waiting;
 
 pub use heard::{Asked, Heard};
+pub use heard_pdu::HeardPdu;
 pub use owner::Owner;
 pub use pushed_on::PushedOn;
 pub use sending::Sending;

@@ -160,7 +160,7 @@ impl Site {
                 }
             }
             Heard::Answer(pushed, pdu) => {
-                let outcome = outcome_of(pushed.sequence, &pdu);
+                let outcome = outcome_of(pushed.sequence, pdu.pdu());
                 drop(pdu);
                 conclude_by(world, self.node, pushed.delivery, outcome)
             }

@@ -1,7 +1,7 @@
 //! A worker's place on a connection, under its lock.
 
 use connection_parts::{Job, Place};
-use pdu_codec::Pdu;
+use esme_service::HeardPdu;
 use std::sync::atomic::{AtomicBool, Ordering};
 use std::sync::{Condvar, Mutex, Wait};
 
@@ -76,14 +76,14 @@ impl Berth {
     }
 
     /// What the ESME answered to the deliver_sm that went out; it waits for that. None if it is given up.
-    pub(crate) fn answered<R: Wait>(&self, rt: &R) -> Option<Pdu> {
+    pub(crate) fn answered<R: Wait>(&self, rt: &R) -> Option<HeardPdu> {
         let held = self.held.lock(rt);
         let mut held = self.changed.wait_while(rt, held, |held| held.place.waits());
         held.place.told()
     }
 
     /// The ESME answered to what was pushed with this sequence_number.
-    pub(crate) fn tell<R: Wait>(&self, rt: &R, sequence: u32, pdu: Pdu) {
+    pub(crate) fn tell<R: Wait>(&self, rt: &R, sequence: u32, pdu: HeardPdu) {
         if self.held.lock(rt).place.answer(sequence, pdu) {
             self.changed.notify_all();
         }
@@ -102,7 +102,7 @@ impl Berth {
         let Some(job) = held.place.job() else {
             return false;
         };
-        let is_given_up = held.place.give_up(job.pushed.sequence);
+        let is_given_up = held.place.give_up(job.pushed.sequence());
         drop(held);
         self.changed.notify_all();
         is_given_up

@@ -113,6 +113,6 @@ fn due_by(slip: &Slip, clock: Moment) -> Option<&SystemId> {
     let submission = vote.chain.submission();
     let is_due = submission.schedule.seconds() <= clock.seconds();
     let mut replies = slip.outputs().replies.iter();
-    let is_accepted = replies.any(|reply| matches!(reply.answer, Answer::Accepted));
+    let is_accepted = replies.any(|reply| matches!(reply.answer(), Answer::Accepted));
     (is_due && is_accepted).then_some(&submission.target)
 }

@@ -61,9 +61,10 @@ pub(crate) struct Connection {
 }
 
 impl Connection {
-    /// A connection over this wire, on which nothing waits. An `Err` is want of memory.
+    /// The connection of the session of a number, over this wire, on which nothing waits. An `Err` is want of memory.
     pub(crate) fn make(
         alloc: Global,
+        number: u8,
         serial: u64,
         begun: u32,
         wire: Wire,
@@ -79,7 +80,7 @@ impl Connection {
             account: Mutex::new(None),
             inbox: Mutex::new(Inbox::make(alloc)?),
             came: Condvar::new(),
-            outbox: Mutex::new(Outbox::make(alloc)?),
+            outbox: Mutex::new(Outbox::make(alloc, number)?),
             changed: Condvar::new(),
             is_through: AtomicBool::new(false),
             berths,
@@ -163,29 +164,6 @@ impl Connection {
 
     // What goes out.
 
-    /// The octets of a PDU are to go out, behind those that wait. If too many wait, the connection is lost.
-    pub(crate) fn post<R: Wait>(&self, rt: &R, octets: Vec<u8>) {
-        self.put(
-            rt,
-            Frame {
-                octets,
-                attempt: None,
-            },
-        );
-    }
-
-    /// The octets of the deliver_sm of an attempt, which was pushed with this sequence_number, are to go out, as those of another PDU. They may be
-    /// taken back.
-    pub(crate) fn post_attempt<R: Wait>(&self, rt: &R, sequence: u32, octets: Vec<u8>) {
-        self.put(
-            rt,
-            Frame {
-                octets,
-                attempt: Some(sequence),
-            },
-        );
-    }
-
     /// The deliver_sm of an attempt that is given up does not go out any more: it is taken back if it waits. If it is being written, the connection is lost:
     /// who takes nothing for so long gets no more of it. Whether it was taken back.
     pub(crate) fn take_back<R: Wait>(&self, rt: &R, sequence: u32) -> bool {
@@ -197,8 +175,9 @@ impl Connection {
         withdrawal == Withdrawal::Withdrawn
     }
 
-    /// A frame is to go out, behind those that wait. If too many wait, the connection is lost.
-    fn put<R: Wait>(&self, rt: &R, frame: Frame) {
+    /// A frame of its session is to go out, behind those that wait; the deliver_sm of an attempt may be taken back. If too many wait, the connection is lost.
+    /// One of another session does not go out.
+    pub(crate) fn post<R: Wait>(&self, rt: &R, frame: Frame) {
         let (is_put, is_shut) = {
             let mut outbox = self.outbox.lock(rt);
             (outbox.put(frame), outbox.is_shut())
@@ -227,7 +206,7 @@ impl Connection {
                 break;
             };
             let begun = Instant::now(rt).ok();
-            if writer.write_all(&frame.octets).is_err() {
+            if writer.write_all(frame.octets()).is_err() {
                 self.lose(rt, self.write_failure(rt, &begun));
             }
         }

@@ -2,7 +2,7 @@
 
 use crate::berth::Berth;
 use crate::connection::Connection;
-use connection_parts::without_optional;
+use connection_parts::{Frame, Job};
 use pdu_codec::Pdu;
 use std::alloc::Global;
 use std::sync::Wait;
@@ -14,39 +14,29 @@ pub(crate) struct BerthGate<'a> {
     pub(crate) alloc: Global,
     pub(crate) connection: &'a Connection,
     pub(crate) berth: &'a Berth,
-    /// The sequence_number with which it was pushed.
-    pub(crate) sequence: u32,
-    pub(crate) knows_optional: bool,
-    /// Whether the text is too long for a short_message.
-    pub(crate) long: bool,
+    pub(crate) job: Job,
     /// Whether the deliver_sm was to go out, and was not taken back.
     pub(crate) is_sent: bool,
 }
 
-impl BerthGate<'_> {
-    /// The octets as the ESME is to get them: without optional parameters, if it knows none. None if there is no memory for them, or if its text
-    /// would be one of those.
-    fn fitted(&self, octets: &[u8]) -> Option<Vec<u8>> {
-        if self.knows_optional {
-            return octets.to_vec(self.alloc).ok();
-        }
-        if self.long {
-            return None;
-        }
-        without_optional(self.alloc, octets).ok()?
-    }
-}
-
 impl<R: Wait> Gate<R> for BerthGate<'_> {
+    ghost use Rattle.std.specs.Prelude.{IfSome};
+    ghost use Rattle.esme_service.specs.Coming.{HasCome};
+
+    /// What it answers has come from an ESME.
+    ghost answers = { λ gate account octets answer after. IfSome answer HasCome };
+
     fn deliver(&mut self, rt: &R, _account: &[u8], octets: &[u8]) -> Option<Pdu> {
-        let frame = self.fitted(octets)?;
+        let frame = Frame::of_attempt(self.alloc, &self.job, octets).ok()??;
         if !self.berth.send(rt) {
+            drop(frame);
             return None;
         }
-        self.connection.post_attempt(rt, self.sequence, frame);
+        self.connection.post(rt, frame);
+        let sequence = self.job.pushed.sequence();
         let answer = self.berth.answered(rt);
         // What is not answered fails the attempt: its deliver_sm must not go out behind that.
-        self.is_sent = answer.is_some() || !self.connection.take_back(rt, self.sequence);
-        answer
+        self.is_sent = answer.is_some() || !self.connection.take_back(rt, sequence);
+        Some(answer?.into_pdu())
     }
 }

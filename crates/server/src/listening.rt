@@ -94,14 +94,15 @@ fn placed<R: Wait + Eprint + Clock>(
     let alloc = house.alloc;
     let serial = house.counters.next_connection();
     let begun = house.now(rt).seconds();
-    let connection = Arc::new(alloc, Connection::make(alloc, serial, begun, wire)?)?;
-    let theirs = Arc::try_clone(&connection)?;
     let mut guard = station.site.lock(rt);
     let site = &mut *guard;
-    match site.admit(theirs, most_sessions(house.own.sessions))? {
-        Some(number) => Ok(Some(Arrival { connection, number })),
-        None => Ok(None),
-    }
+    let Some(number) = site.free_number(most_sessions(house.own.sessions)) else {
+        return Ok(None);
+    };
+    let connection = Connection::make(alloc, number, serial, begun, wire)?;
+    let connection = Arc::new(alloc, connection)?;
+    site.admit(number, Arc::try_clone(&connection)?)?;
+    Ok(Some(Arrival { connection, number }))
 }
 
 /// How many sessions a node may have, if the configuration gives this limit, or 0 for none.

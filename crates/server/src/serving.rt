@@ -106,7 +106,10 @@ fn house_of<R: Clock>(
     alloc: Global,
     doors: Doors,
     settings: Settings,
-) -> Result<House, AllocError> {
+) -> Result<House, AllocError>
+    ensures config { IfOk result (λ house. house.config ≡ settings.config) }
+    ensures limits { IfOk result (λ house. house.own ≡ settings.own) }
+{
     let Doors { listeners, lives } = doors;
     let Settings {
         config,

@@ -11,12 +11,12 @@ use crate::lanes::Lanes;
 use crate::notice::{Reason, Whom};
 use crate::presence::Presence;
 use crate::starting::Arrival;
-use connection_parts::{Job, Tally};
-use esme_service::{Sending, Service};
+use connection_parts::{Frame, Job, Tally};
+use esme_service::{HeardPdu, Sending, Service};
 use fate_chain::Chain;
 use mc_types::{Moment, MsgId, Slot};
 use node_workers::{Attempt, MayBegin, MessageIds, Outputs, Reach};
-use pdu_codec::{Pdu, SystemId};
+use pdu_codec::SystemId;
 use sessions::{Delivery, Outgoing, Pushed, WINDOW};
 use std::alloc::{AllocError, Global};
 use std::collections::BTreeMap;
@@ -67,20 +67,20 @@ impl Site {
         }
     }
 
-    /// A connection gets the lowest number of a session that is free, of so many; none if none is. An `Err` is want of memory.
+    /// The lowest number of a session that is free, of so many; none if none is.
+    pub(crate) fn free_number(&self, most: u8) -> Option<u8> {
+        (1..=most).find(|number| !self.connections.contains_key(number))
+    }
+
+    /// The session of a number, which is free, begins over a connection. An `Err` is want of memory.
     pub(crate) fn admit(
         &mut self,
+        number: u8,
         connection: Arc<Connection>,
-        most: u8,
-    ) -> Result<Option<u8>, AllocError> {
-        for number in 1..=most {
-            if !self.connections.contains_key(&number) {
-                self.service.begin(number)?;
-                self.connections.insert(number, connection)?;
-                return Ok(Some(number));
-            }
-        }
-        Ok(None)
+    ) -> Result<(), AllocError> {
+        self.service.begin(number)?;
+        self.connections.insert(number, connection)?;
+        Ok(())
     }
 
     /// The session of a number is over, and what waits on its connection is the last that goes out there. Its deliveries get no answer.
@@ -136,9 +136,9 @@ impl Site {
 
     // What goes out.
 
-    /// These octets go out on the connection of a session, if there is one.
-    fn post<R: Wait>(&self, rt: &R, number: u8, frame: Vec<u8>) {
-        if let Some(connection) = self.connections.get(&number) {
+    /// A frame goes out on the connection of its session, if there is one.
+    fn post<R: Wait>(&self, rt: &R, frame: Frame) {
+        if let Some(connection) = self.connections.get(&frame.number()) {
             connection.post(rt, frame);
         }
     }
@@ -151,14 +151,14 @@ impl Site {
         number: u8,
         outgoing: Outgoing,
     ) -> Result<(), AllocError> {
-        self.post(rt, number, outgoing.octets(self.alloc, system_id)?);
+        self.post(rt, Frame::of_response(self.alloc, system_id, number, outgoing)?);
         Ok(())
     }
 
     /// What the service sends goes out. An `Err` is want of memory.
     fn send<R: Wait>(&self, rt: &R, sending: &Sending) -> Result<(), AllocError> {
-        if let Some(frame) = sending.octets(self.alloc)? {
-            self.post(rt, sending.number(), frame);
+        if let Some(frame) = Frame::of_sending(self.alloc, sending)? {
+            self.post(rt, frame);
         }
         Ok(())
     }
@@ -179,7 +179,7 @@ impl Site {
             match reply.copy() {
                 Ok(copy) => self.reply(rt, copy),
                 Err(fault) => {
-                    self.lose_holder(rt, reply.ticket);
+                    self.lose_holder(rt, reply.ticket());
                     replied = Err(fault);
                 }
             }
@@ -384,7 +384,7 @@ impl Site {
         };
         let is_given = self.give(rt, Job { slot, pushed, long });
         if !matches!(is_given, Ok(true)) {
-            self.service.take_back(pushed.number, pushed.sequence);
+            self.service.take_back(pushed.number(), pushed.sequence());
         }
         is_given
     }
@@ -392,7 +392,7 @@ impl Site {
     /// Gives a delivery to a worker of its session that is free; whether one is. It is noted first, so that its answer finds it. An `Err` is want of memory,
     /// and nothing is given.
     fn give<R: Wait>(&mut self, rt: &R, job: Job) -> Result<bool, AllocError> {
-        let number = job.pushed.number;
+        let number = job.pushed.number();
         let Some(place) = self.free_place(rt, number) else {
             return Ok(false);
         };
@@ -418,7 +418,7 @@ impl Site {
 
     /// Hands a delivery to the worker of a place of its session; whether it is given.
     fn hand<R: Wait>(&self, rt: &R, place: usize, job: Job) -> bool {
-        match self.connections.get(&job.pushed.number) {
+        match self.connections.get(&job.pushed.number()) {
             Some(connection) => connection.give(rt, place, job),
             None => false,
         }
@@ -443,7 +443,7 @@ impl Site {
     }
 
     /// The ESME answered to what was pushed on a session.
-    pub(crate) fn answered<R: Wait>(&self, rt: &R, pushed: Pushed, pdu: Pdu) {
+    pub(crate) fn answered<R: Wait>(&self, rt: &R, pushed: Pushed, pdu: HeardPdu) {
         let sequence = pushed.sequence;
         match self.berth_of(pushed.delivery) {
             Some(berth) => berth.tell(rt, sequence, pdu),
@@ -467,9 +467,9 @@ impl Site {
         self.forget(job.slot);
         if is_sent {
             self.tally.deliveries = self.tally.deliveries.saturating_add(1);
-        } else if self.is_at(job.pushed.number, connection) {
+        } else if self.is_at(job.pushed.number(), connection) {
             self.service
-                .take_back(job.pushed.number, job.pushed.sequence);
+                .take_back(job.pushed.number(), job.pushed.sequence());
         }
     }
 
@@ -577,14 +577,7 @@ impl Site {
             let Some(ticket) = self.first_ticket() else {
                 return;
             };
-            self.reply(
-                rt,
-                Reply {
-                    ticket,
-                    id,
-                    answer: Answer::TooLate,
-                },
-            );
+            self.reply(rt, Reply::too_late(ticket, id));
         }
     }
 
@@ -636,7 +629,7 @@ impl Site {
 
 /// How many final states a reply tells.
 fn final_states(reply: &Reply) -> u64 {
-    match &reply.answer {
+    match reply.answer() {
         Answer::Shown(chain) | Answer::Removed(chain) if chain.fate().is_some() => 1,
         _ => 0,
     }

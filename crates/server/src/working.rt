@@ -68,9 +68,7 @@ fn deliver<'x, S: StableStore, L: Begins, R: Wait + Eprint + Clock>(
         alloc: shift.shared.house.alloc,
         connection,
         berth,
-        sequence: job.pushed.sequence,
-        knows_optional: job.pushed.knows_optional,
-        long: job.long,
+        job: *job,
         is_sent: false,
     };
     let home = Home {
@@ -93,10 +91,9 @@ fn heard_in(job: &Job) -> Heard
     ensures sequence { result.sequence ≡ job.now.pushed.sequence }
 {
     let slot = job.slot;
-    let pushed = job.pushed;
     Heard {
         id: slot.id,
-        sequence: pushed.sequence,
+        sequence: job.pushed.sequence(),
     }
 }
 
@@ -110,8 +107,8 @@ fn free<S: StableStore, L: Begins, R: Wait + Eprint + Clock>(
     let mut guard = shift.station.site.lock(shift.rt);
     let site = &mut *guard;
     site.delivered(connection, job, is_sent);
-    let fed = shift.feed_session(site, job.pushed.number);
-    let is_hungry = site.is_hungry(job.pushed.number);
+    let fed = shift.feed_session(site, job.pushed.number());
+    let is_hungry = site.is_hungry(job.pushed.number());
     drop(guard);
     if is_hungry {
         shift.station.bell.call(shift.rt, 0);

@@ -1,7 +1,7 @@
 use Rattle.std.proofs.Common.{rules}
 use Rattle.std.specs.Prelude.{not}
 use Rattle.std.proofs.lemmas.Fn.{filter_same}
-use Rattle.connection_parts.specs.Outboxes.{is_of}
+use Rattle.connection_parts.specs.Frames.{is_of}
 use Rattle.connection_parts.proofs.frame_queue.FrameQueue+Frame.take_back.Goals as goal
 
 pub returns-clause-after : goal.returns-clause-after
