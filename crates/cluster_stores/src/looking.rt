@@ -1,11 +1,14 @@
 //! What is found where the nodes of a configuration keep their records, before anything is made or changed there.
 
-use crate::fault::ServeFault;
+ghost use Rattle.std.specs.Prelude.{◌≡◌, IfOk, is_some};
+ghost use Rattle.cluster_stores.specs.Places.{AreSeenWhereTold, has_path, is_seen_on_disk};
+
+use crate::fault::StoresFault;
 use crate::opening::number_of;
 use crate::unopened::unopened;
 use config::NodeConfig;
+use mc_types::LAST_INCARNATION;
 use node_stores::NodeStore;
-use server::LAST_INCARNATION;
 use stable_store::StoreFault;
 use std::alloc::Global;
 use std::fs;
@@ -13,30 +16,43 @@ use std::io::ErrorKind;
 use std::rt::{Files, HostRuntime};
 use whose_stores::Found;
 
-/// What is found at each node, that of node 1 first, and the stores that are there, which are open.
+/// Where a node is to keep its records.
 #[derive(Drop)]
-pub(crate) struct Looked {
+pub(crate) enum Seen<'a> {
+    /// In memory.
+    Memory,
+    /// In the file of this path, which is missing or has no octets.
+    New(&'a str),
+    /// In this store, which is there, and open.
+    There(NodeStore),
+}
+
+/// What is found at each node, that of node 1 first, and where it is to keep its records.
+#[derive(Drop)]
+pub(crate) struct Looked<'a> {
     pub(crate) found: Vec<Found>,
-    pub(crate) stores: Vec<Option<NodeStore>>,
+    pub(crate) seen: Vec<Seen<'a>>,
 }
 
 /// Looks where each node keeps its records. What is missing or has no octets stays so; what is there is opened. Store tells of the first that can't be
 /// opened, says of itself what was never saved there, or has no incarnation left; Unopened of a file that the device refuses.
-pub(crate) fn look<R: Files>(
+pub(crate) fn look<'a, R: Files>(
     rt: &R,
     host: &HostRuntime,
     alloc: Global,
-    nodes: &[NodeConfig],
-) -> Result<Looked, ServeFault> {
+    nodes: &'a [NodeConfig],
+) -> Result<Looked<'a>, StoresFault>
+    ensures { IfOk result (λ looked. AreSeenWhereTold nodes.now looked.seen.items) }
+{
     let mut looked = Looked {
         found: Vec::new(alloc),
-        stores: Vec::new(alloc),
+        seen: Vec::new(alloc),
     };
     for node in nodes {
         match look_at(rt, host, alloc, node) {
-            Ok((found, store)) => {
+            Ok((found, seen)) => {
                 looked.found.push(found)?;
-                looked.stores.push(store)?;
+                looked.seen.push(seen)?;
             }
             Err(fault) => {
                 let number = number_of(looked.found.len());
@@ -48,32 +64,36 @@ pub(crate) fn look<R: Files>(
 }
 
 /// Where a node keeps its records, if not in memory.
-pub(crate) fn path_of(node: &NodeConfig) -> Option<&str> {
+pub(crate) fn path_of(node: &NodeConfig) -> Option<&str>
+    ensures { is_some result ≡ has_path node.now }
+{
     match &node.store {
         Some(path) => Some(path.as_str()),
         None => None,
     }
 }
 
-/// What is found at a node, and its store, if there is one.
-fn look_at<R: Files>(
+/// What is found at a node, and where it is to keep its records.
+fn look_at<'a, R: Files>(
     rt: &R,
     host: &HostRuntime,
     alloc: Global,
-    node: &NodeConfig,
-) -> Result<(Found, Option<NodeStore>), StoreFault> {
+    node: &'a NodeConfig,
+) -> Result<(Found, Seen<'a>), StoreFault>
+    ensures { IfOk result (λ looked. is_seen_on_disk looked.1 ≡ has_path node.now) }
+{
     let Some(path) = path_of(node) else {
-        return Ok((Found::Memory, None));
+        return Ok((Found::Memory, Seen::Memory));
     };
     if is_new(rt, path) {
-        return Ok((Found::New, None));
+        return Ok((Found::New, Seen::New(path)));
     }
     let store = NodeStore::open(host, alloc, Some(path))?;
     let (store, stored) = store.looked(alloc)?;
     if stored.begun >= LAST_INCARNATION {
         return Err(StoreFault::Incarnations);
     }
-    Ok((Found::Stored(stored), Some(store)))
+    Ok((Found::Stored(stored), Seen::There(store)))
 }
 
 /// Whether there is no file at the path, or one without an octet. Of what the system does not tell the opening will.

@@ -1,14 +1,18 @@
 //! Making the stores of a cluster, and writing into them whose they are.
 
-use crate::fault::ServeFault;
-use crate::looking::{Looked, path_of};
+ghost use Rattle.std.specs.Prelude.{◌≡◌, IfOk, map};
+ghost use Rattle.node_stores.specs.Stores.{is_on_disk};
+ghost use Rattle.cluster_stores.specs.Places.{is_seen_on_disk};
+
+use crate::fault::StoresFault;
+use crate::looking::{Looked, Seen, path_of};
 use crate::opening::number_of;
 use crate::private::make_private;
 use crate::unopened::unopened;
 use config::NodeConfig;
 use node_stores::NodeStore;
 use stable_store::StoreFault;
-use std::alloc::Global;
+use std::alloc::{AllocError, Global};
 use std::random::RandomSource;
 use std::rt::HostRuntime;
 use whose_stores::{Found, Whose};
@@ -19,57 +23,75 @@ pub(crate) fn make_stores(
     host: &HostRuntime,
     alloc: Global,
     nodes: &[NodeConfig],
-    looked: Looked,
-) -> Result<Vec<NodeStore>, ServeFault> {
-    let Looked {
-        found,
-        stores: seen,
-    } = looked;
+    looked: Looked<'_>,
+) -> Result<Vec<NodeStore>, StoresFault>
+    ensures { IfOk result (λ stores. map is_on_disk stores.items ≡ map is_seen_on_disk looked.seen.items) }
+{
+    let Looked { found, seen } = looked;
     let cluster = match named(&found) {
         Some(cluster) => cluster,
         None => drawn(host)?,
     };
     let mut stores = Vec::with_capacity(alloc, nodes.len())?;
-    for (node, store) in nodes.iter().zip(seen) {
-        let number = number_of(stores.len());
-        let lacks = lacking(&found, stores.len()).map(|at| Whose {
+    for place in seen {
+        let at = stores.len();
+        let lacks = lacking(&found, at).map(|begun| Whose {
             cluster,
-            node: number,
+            node: number_of(at),
             nodes: number_of(nodes.len().saturating_sub(1)),
-            at,
+            at: begun,
         });
-        match made(host, alloc, node, (store, lacks)) {
+        match made(host, alloc, place, lacks) {
             Ok(store) => stores.push(store)?,
-            Err(fault) => return Err(unopened(host, number, path_of(node), fault)?),
+            Err(fault) => return Err(unmade(host, nodes, at, fault)?),
         }
     }
     Ok(stores)
+}
+
+/// Why there is no store of the node at a place.
+fn unmade(
+    host: &HostRuntime,
+    nodes: &[NodeConfig],
+    place: usize,
+    fault: StoreFault,
+) -> Result<StoresFault, AllocError> {
+    let path = match nodes.get(place) {
+        Some(node) => path_of(node),
+        None => None,
+    };
+    unopened(host, number_of(place), path, fault)
 }
 
 /// The store of a node, which is made if it is not there, and says whose it is, if it lacks that.
 fn made(
     host: &HostRuntime,
     alloc: Global,
-    node: &NodeConfig,
-    (store, lacks): (Option<NodeStore>, Option<Whose>),
-) -> Result<NodeStore, StoreFault> {
-    let store = match store {
-        Some(store) => store,
-        None => opened(host, alloc, path_of(node))?,
-    };
+    seen: Seen<'_>,
+    lacks: Option<Whose>,
+) -> Result<NodeStore, StoreFault>
+    ensures { IfOk result (λ store. is_on_disk store ≡ is_seen_on_disk seen) }
+{
+    let store = opened(host, alloc, seen)?;
     match lacks {
         Some(whose) => store.marked(alloc, whose),
         None => Ok(store),
     }
 }
 
-/// A new store, in the file of a path, which its owner alone may read, or in memory.
-fn opened(host: &HostRuntime, alloc: Global, path: Option<&str>) -> Result<NodeStore, StoreFault> {
-    if let Some(path) = path {
-        // If it can't be made, it can't be opened.
-        let _ = make_private(host, path);
+/// The store that is there, or a new one: in the file of a path, which its owner alone may read, or in memory.
+fn opened(host: &HostRuntime, alloc: Global, seen: Seen<'_>) -> Result<NodeStore, StoreFault>
+    ensures { IfOk result (λ store. is_on_disk store ≡ is_seen_on_disk seen) }
+{
+    match seen {
+        Seen::There(store) => Ok(store),
+        Seen::Memory => NodeStore::open(host, alloc, None),
+        Seen::New(path) => {
+            // If it can't be made, it can't be opened.
+            let _ = make_private(host, path);
+            NodeStore::open(host, alloc, Some(path))
+        }
     }
-    NodeStore::open(host, alloc, path)
 }
 
 /// The cluster that the first store names which says whose it is.
@@ -94,10 +116,10 @@ fn lacking(found: &[Found], place: usize) -> Option<u16> {
 }
 
 /// A name for a cluster.
-fn drawn(host: &HostRuntime) -> Result<i64, ServeFault> {
+fn drawn(host: &HostRuntime) -> Result<i64, StoresFault> {
     let mut octets = [0; 8];
     match host.fill_bytes(&mut octets) {
         Ok(()) => Ok(i64::from_be_bytes(octets)),
-        Err(_) => Err(ServeFault::Random),
+        Err(_) => Err(StoresFault::Random),
     }
 }

@@ -1,23 +1,27 @@
 //! The stores of a cluster: looked at, then made.
 
-use crate::fault::ServeFault;
-use crate::looking::{Looked, look};
+ghost use Rattle.std.specs.Prelude.{◌≡◌, IfOk};
+ghost use Rattle.cluster_stores.specs.Places.{AreWhereTold};
+
+use crate::fault::StoresFault;
+use crate::looking::look;
 use crate::marking::make_stores;
-use crate::opening::number_of;
 use crate::refusal::Refusal;
 use config::NodeConfig;
 use node_stores::NodeStore;
 use std::alloc::{AllocError, Global};
 use std::rt::{Files, HostRuntime};
-use whose_stores::{Found, judge};
+use whose_stores::judge;
 
 /// The stores of the nodes, that of node 1 first, which may go on together. Shared, Unopened or Store, and Stores tell why there are none, in this order, and then
 /// nothing was made or changed; only behind that are stores made that are not there, and written whose they are.
-pub(crate) fn open_stores<R: Files + AllocGlobal>(
+pub fn open_stores<R: Files + AllocGlobal>(
     rt: &R,
     host: &HostRuntime,
     nodes: &[NodeConfig],
-) -> Result<Vec<NodeStore>, ServeFault> {
+) -> Result<Vec<NodeStore>, StoresFault>
+    ensures { IfOk result (λ stores. AreWhereTold nodes.now stores.items) }
+{
     let alloc = rt.alloc();
     if let Some((one, other)) = shared(nodes) {
         return Err(sharing(alloc, nodes, one, other)?);
@@ -26,7 +30,7 @@ pub(crate) fn open_stores<R: Files + AllocGlobal>(
     if let Some(difference) = judge(&looked.found) {
         let refusal = Refusal::make(alloc, nodes, &looked.found, difference)?;
         drop(looked);
-        return Err(ServeFault::Stores(refusal));
+        return Err(StoresFault::Stores(refusal));
     }
     make_stores(host, alloc, nodes, looked)
 }
@@ -66,8 +70,13 @@ fn sharing(
     nodes: &[NodeConfig],
     one: usize,
     other: usize,
-) -> Result<ServeFault, AllocError> {
+) -> Result<StoresFault, AllocError> {
     let path = path_at(nodes, one).unwrap_or("");
     let path = String::from_str(alloc, path)?;
-    Ok(ServeFault::Shared(number_of(one), number_of(other), path))
+    Ok(StoresFault::Shared(number_of(one), number_of(other), path))
+}
+
+/// The number of the node at a place.
+pub(crate) fn number_of(place: usize) -> u8 {
+    place.saturating_add(1).min(u8::MAX as usize) as u8
 }

@@ -1,6 +1,6 @@
 //! Why the store of a node can't be opened.
 
-use crate::fault::ServeFault;
+use crate::fault::StoresFault;
 use crate::private::make_private;
 use stable_store::StoreFault;
 use std::alloc::AllocError;
@@ -14,13 +14,13 @@ pub(crate) fn unopened(
     number: u8,
     path: Option<&str>,
     fault: StoreFault,
-) -> Result<ServeFault, AllocError> {
+) -> Result<StoresFault, AllocError> {
     match (path, fault) {
         (Some(path), StoreFault::Device) => {
             let shown = String::from_str(host.alloc(), path)?;
-            Ok(ServeFault::Unopened(number, shown, refusal(host, path)))
+            Ok(StoresFault::Unopened(number, shown, refusal(host, path)))
         }
-        _ => Ok(ServeFault::Store(number, fault)),
+        _ => Ok(StoresFault::Store(number, fault)),
     }
 }
 

@@ -1,5 +1,5 @@
 -- A node's store, on disk or in memory (own).
-use Rattle.std.specs.Prelude.{◌≡◌, false}
+use Rattle.std.specs.Prelude.{◌≡◌, Bool, true, false}
 use Rattle.sqlite.specs.Files.{file_state, over_files}
 use Rattle.sqlite.specs.State.{HasCleanDisk}
 use Rattle.sqlite.specs.Steps.{over_memory}
@@ -9,6 +9,10 @@ use Rattle.sql_store.specs.Adopted.{no_records}
 use Rattle.sql_store.specs.Sql.{stored_in}
 use Rattle.node_stores.specs.declared.store.NodeStore.{NodeStore}
 use Rattle.node_stores.specs.declared.store.NodeStore.TheVariants.{OnDisk, InMemory}
+
+abbrev pub is_on_disk : NodeStore → Bool
+is_on_disk (OnDisk store) = true
+is_on_disk (InMemory store) = false
 
 -- what is stored
 abbrev pub kept_in : NodeStore → Stored

@@ -17,9 +17,13 @@ use whose_stores::{MOST_NODES, Stored, Whose};
 const LAST_INCARNATION: i64 = 9_999;
 
 impl NodeStore {
+    ghost use Rattle.node_stores.specs.Stores.{is_on_disk};
+
     /// The store, and what it says of itself: whose it is, what has begun over it, and which incarnations its records name. Damaged if that was never
     /// saved there; Memory and Device as an opening tells them.
-    pub fn looked(self, alloc: Global) -> Result<(NodeStore, Stored), StoreFault> {
+    pub fn looked(self, alloc: Global) -> Result<(NodeStore, Stored), StoreFault>
+        ensures place { IfOk result (λ looked. is_on_disk looked.0 ≡ is_on_disk self) }
+    {
         match self {
             NodeStore::OnDisk(store) => {
                 let (store, stored) = looked(store, alloc)?;
@@ -33,7 +37,9 @@ impl NodeStore {
     }
 
     /// The store, which says from now on whose it is, and did not before. Memory and Device as an opening tells them.
-    pub fn marked(self, alloc: Global, whose: Whose) -> Result<NodeStore, StoreFault> {
+    pub fn marked(self, alloc: Global, whose: Whose) -> Result<NodeStore, StoreFault>
+        ensures place { IfOk result (λ store. is_on_disk store ≡ is_on_disk self) }
+    {
         let row = row_of(whose);
         match self {
             NodeStore::OnDisk(store) => Ok(NodeStore::OnDisk(store.marked(alloc, &row)?)),

@@ -18,9 +18,9 @@ pub enum NodeStore {
 }
 
 impl NodeStore {
-    ghost use Rattle.std.specs.Prelude.{◌≡◌, ◌⊎◌, IfErr, IfNone, IfOk, IfSome};
+    ghost use Rattle.std.specs.Prelude.{◌≡◌, ◌⊎◌, IfErr, IfNone, IfOk, IfSome, is_some};
     ghost use Rattle.stable_store.specs.declared.fault.StoreFault.TheVariants.{Device, Memory};
-    ghost use Rattle.node_stores.specs.Stores.{OpensInMemory, OpensOnDisk};
+    ghost use Rattle.node_stores.specs.Stores.{OpensInMemory, OpensOnDisk, is_on_disk};
 
     /// The store in the file of this path and the log beside it, which are made if they are absent; with no path, a new store in memory, which is refused for
     /// want of memory alone. Of a path Memory for want of memory; else Device: the file can't be opened, has another table, or failed, or after want of memory
@@ -33,6 +33,7 @@ impl NodeStore {
         ensures on_disk { IfSome path.entry (λ _. IfOk result OpensOnDisk) }
         ensures in_memory { IfNone path.entry (IfOk result OpensInMemory) }
         ensures wants { IfNone path.entry (IfErr result (λ fault. fault ≡ Memory)) }
+        ensures place { IfOk result (λ store. is_on_disk store ≡ is_some path.entry) }
         ensures refused { IfErr result (λ fault. (fault ≡ Device) ⊎ (fault ≡ Memory)) }
     {
         match path {

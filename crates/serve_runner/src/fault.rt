@@ -1,9 +1,8 @@
 //! Why a server does not serve, or no longer.
 
-use crate::refusal::Refusal;
+use cluster_stores::StoresFault;
 use config::{ConfigFault, OwnFault};
 use server::Ending;
-use stable_store::StoreFault;
 use std::alloc::{AllocError, AllocFailed};
 use std::net::SocketAddrV4;
 use std::{fmt, io};
@@ -21,16 +20,8 @@ pub enum ServeFault {
     Config(ConfigFault),
     /// What stands in its table `own` is none.
     Own(OwnFault),
-    /// The store of the node with this number is none.
-    Store(u8, StoreFault),
-    /// The store of the node with this number can't be opened, which is the file of this path. What the system says, if it is the system that refuses it.
-    Unopened(u8, String, Option<io::Error>),
-    /// Two nodes have one store, at this path.
-    Shared(u8, u8, String),
-    /// The stores are not those with which their nodes may go on together.
-    Stores(Refusal),
-    /// The system gave no random octets.
-    Random,
+    /// The stores of its nodes are not served, for this reason.
+    Stores(StoresFault),
     /// A node can't listen here, for this reason of the system.
     Listen(SocketAddrV4, io::Error),
     /// There was no memory to begin.
@@ -53,15 +44,9 @@ impl<T: Drop> From<AllocFailed<T>> for ServeFault {
     }
 }
 
-/// What is wrong with a store, and what to do.
-fn store_text(fault: StoreFault) -> &'static str {
-    match fault {
-        StoreFault::Device =>
-            "its file can't be opened, read or written, is of another program, or another process has it open",
-        StoreFault::Damaged =>
-            "what is in it was never saved there: take the stores of all nodes back from one backup",
-        StoreFault::Incarnations => "the node has begun its last incarnation, 9999",
-        StoreFault::Memory => "there was not enough memory",
+impl From<StoresFault> for ServeFault {
+    fn from(fault: StoresFault) -> ServeFault {
+        ServeFault::Stores(fault)
     }
 }
 
@@ -73,25 +58,7 @@ impl fmt::Display for ServeFault {
             ServeFault::NotToml(text) => write!(f, "the configuration: no TOML: {text}"),
             ServeFault::Config(fault) => write!(f, "the configuration: {fault}"),
             ServeFault::Own(fault) => write!(f, "the configuration: {fault}"),
-            ServeFault::Store(number, fault) => {
-                let text = store_text(*fault);
-                write!(f, "the store of node {number}: {text}")
-            }
-            ServeFault::Shared(one, other, path) => {
-                write!(f, "node {one} and node {other} have one store: {path}")
-            }
-            ServeFault::Stores(refusal) => write!(f, "{refusal}"),
-            ServeFault::Random => f.write_str("the system gave no random octets"),
-            ServeFault::Unopened(number, path, Some(error)) => {
-                write!(
-                    f,
-                    "the store of node {number}, {path}, can't be opened: {error}"
-                )
-            }
-            ServeFault::Unopened(number, path, None) => write!(
-                f,
-                "the store of node {number}, {path}, can't be opened: another process has it open, another program wrote it, or no file can be made beside it"
-            ),
+            ServeFault::Stores(fault) => write!(f, "{fault}"),
             ServeFault::Listen(address, error) => {
                 write!(f, "no node can listen on {address}: {error}")
             }

@@ -5,6 +5,7 @@ ghost use Rattle.node_stores.specs.Stores.{kept_in};
 ghost use Rattle.server.specs.Loadings.{AreLoaded, BeginAJournal};
 
 use crate::fault::ServeFault;
+use cluster_stores::StoresFault;
 use config::{Config, ConfigFault, NodeConfig, Own, read_config, read_own};
 use config_warnings::warnings;
 use node_stores::NodeStore;
@@ -103,11 +104,6 @@ pub(crate) fn read_file<R: Files + AllocGlobal>(
     })
 }
 
-/// The number of the node at a place.
-pub(crate) fn number_of(place: usize) -> u8 {
-    place.saturating_add(1).min(u8::MAX as usize) as u8
-}
-
 /// The nodes, loaded over these stores, that of node 1 first. Store tells of the first that can't be loaded.
 pub(crate) fn load_all(
     alloc: Global,
@@ -138,7 +134,7 @@ pub(crate) fn begin_all(
 /// Why a server does not serve whose nodes do not open.
 fn fault_of(fault: StartFault) -> ServeFault {
     match fault {
-        StartFault::Open(node, fault) => ServeFault::Store(node.number(), fault),
+        StartFault::Open(node, fault) => ServeFault::Stores(StoresFault::Store(node.number(), fault)),
         StartFault::Nodes | StartFault::Memory => ServeFault::Memory,
     }
 }

@@ -9,8 +9,8 @@ use crate::asked::Options;
 use crate::fault::ServeFault;
 use crate::opening::{Configured, begin_all, listen_all, load_all, read_file};
 use crate::standard::fill_standard;
-use crate::stores::open_stores;
 use crate::version::PROGRAM;
+use cluster_stores::open_stores;
 use config::{Config, NodeConfig};
 use node_stores::NodeStore;
 use server::{
