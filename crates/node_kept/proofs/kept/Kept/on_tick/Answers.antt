@@ -19,7 +19,7 @@ use Rattle.node_kept.proofs.kept.Kept.on_tick.Goals as goal
 pub returns-clause-step : goal.returns-clause-step
 returns-clause-step c =
     let k = c.args.self.now in
-    let clock : c.max-clock.result ≡ max k.clock c.args.moment = search rules in
+    let clock : c.max-clock.result ≡ max k.clock c.args.moment = search (rules, c.max-clock.ensures) in
     let turns = c.in_ok-turns.turns in
     let many : c.len.result ≡ length turns.messages.items = search rules in
     let same = c.unchanged-next.ensures in
