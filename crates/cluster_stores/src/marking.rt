@@ -25,7 +25,7 @@ pub(crate) fn make_stores(
     nodes: &[NodeConfig],
     looked: Looked<'_>,
 ) -> Result<Vec<NodeStore>, StoresFault>
-    ensures { IfOk result (λ stores. map is_on_disk stores.items ≡ map is_seen_on_disk looked.seen.items) }
+    ensures { IfOk result (λ stores. map is_on_disk stores.items ≡ map is_seen_on_disk looked.entry.seen.items) }
 {
     let Looked { found, seen } = looked;
     let cluster = match named(&found) {
@@ -70,7 +70,7 @@ fn made(
     seen: Seen<'_>,
     lacks: Option<Whose>,
 ) -> Result<NodeStore, StoreFault>
-    ensures { IfOk result (λ store. is_on_disk store ≡ is_seen_on_disk seen) }
+    ensures { IfOk result (λ store. is_on_disk store ≡ is_seen_on_disk seen.entry) }
 {
     let store = opened(host, alloc, seen)?;
     match lacks {
@@ -81,7 +81,7 @@ fn made(
 
 /// The store that is there, or a new one: in the file of a path, which its owner alone may read, or in memory.
 fn opened(host: &HostRuntime, alloc: Global, seen: Seen<'_>) -> Result<NodeStore, StoreFault>
-    ensures { IfOk result (λ store. is_on_disk store ≡ is_seen_on_disk seen) }
+    ensures { IfOk result (λ store. is_on_disk store ≡ is_seen_on_disk seen.entry) }
 {
     match seen {
         Seen::There(store) => Ok(store),
