@@ -165,7 +165,8 @@ class Tries(With):
     def test_compile_checks(self):
         cases = [case._replace(crate="mc_types") for case in compile_checks.found()]
         found = self.outcomes(compile_checks, cases, COMPILER)
-        self.assertEqual({case.crate for case in compile_checks.found()}, {"journal_parts", "node_core"})
+        crates = {"connection_parts", "esme_service", "journal_parts", "node_core", "waiting_requests"}
+        self.assertEqual({case.crate for case in compile_checks.found()}, crates)
         self.assertEqual({name for name, outcome in found.items() if outcome.is_refused}, {"life_cloned"})
         self.assertEqual({outcome.said for outcome in found.values()}, {"refused, and right without the defect", "the wrong caller compiles"})
 
