@@ -38,7 +38,7 @@ pub returns-in-Answer : goal.returns-in-Answer
 returns-in-Answer c =
     answer_heeded (settings_of c.args.config.now) c.args.number (record { world = c.args.world.now; site = c.args.self.now }) c.conclude_by.result
     c.args.heard c.in-Answer.pushed c.in-Answer.pdu c.outcome_of-outcome.result c.conclude_by.new.world c.args.text.now.items c.in-Answer.is
-    c.outcome_of-outcome.ensures c.conclude_by.ensures
+    (rw c.pdu.ensures at c.outcome_of-outcome.ensures) c.conclude_by.ensures
 
 pub returns-in_ok-write_outgoing-in-Gone : goal.returns-in_ok-write_outgoing-in-Gone
 returns-in_ok-write_outgoing-in-Gone c =
