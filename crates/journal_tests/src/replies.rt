@@ -46,12 +46,10 @@ fn message(rt: &impl Abort, alloc: Global) -> Submission {
     }
 }
 
-/// A request that node 1, which is alone, knew nothing of.
-fn told_nothing(rt: &impl Abort, request: Request) -> Held {
-    let mut held = Held::begin(TICKET, Moment::least(), request);
+/// Node 1, which is alone, tells a request that it knows nothing.
+fn tell_nothing(rt: &impl Abort, held: &mut Held) {
     let first = node(1).expect(rt, "a node");
     held.hear(first, None).expect(rt, "memory");
-    held
 }
 
 /// The reply to the only request that waits, by a chain.
@@ -78,13 +76,13 @@ pub fn accepted(rt: &impl Abort, alloc: Global, chain: Chain) -> Reply {
 
 /// The state by a chain.
 pub fn shown(rt: &impl Abort, alloc: Global, chain: Chain) -> Reply {
-    let query = query(rt, alloc, chain.id());
-    reply_by(rt, alloc, told_nothing(rt, query), chain)
+    let held = query(rt, alloc, chain.id());
+    reply_by(rt, alloc, held, chain)
 }
 
 /// That there is no message of this id.
 pub fn unknown(rt: &impl Abort, alloc: Global, id: MsgId) -> Reply {
-    let held = told_nothing(rt, query(rt, alloc, id));
+    let held = query(rt, alloc, id);
     let reply = held.reply_now(1, None).expect(rt, "memory");
     drop(held);
     reply.expect(rt, "a reply")
@@ -92,20 +90,25 @@ pub fn unknown(rt: &impl Abort, alloc: Global, id: MsgId) -> Reply {
 
 /// That the message is deleted, by a chain.
 pub fn removed(rt: &impl Abort, alloc: Global, chain: Chain) -> Reply {
-    let cancel = Request::Cancel {
+    let request = Request::Cancel {
         id: chain.id(),
         account: sme1(rt, alloc),
         source: text(rt, alloc, b"144"),
         destination: text(rt, alloc, b""),
     };
-    reply_by(rt, alloc, told_nothing(rt, cancel), chain)
+    let mut held = Held::begin(TICKET, Moment::least(), request);
+    tell_nothing(rt, &mut held);
+    reply_by(rt, alloc, held, chain)
 }
 
-/// A query_sm of the message of this id.
-fn query(rt: &impl Abort, alloc: Global, id: MsgId) -> Request {
-    Request::Query {
+/// A query_sm of the message of this id, of which node 1 knew nothing.
+fn query(rt: &impl Abort, alloc: Global, id: MsgId) -> Held {
+    let request = Request::Query {
         id,
         account: sme1(rt, alloc),
         source: text(rt, alloc, b"144"),
-    }
+    };
+    let mut held = Held::begin(TICKET, Moment::least(), request);
+    tell_nothing(rt, &mut held);
+    held
 }
