@@ -52,14 +52,15 @@ own : (number : ℕ) (calls : List Call) →
 own number [] = (refl, refl)
 own number (call ∷ before) =
     let was = own number before in
-    let outbox : Outbox = after_all number before in
-    (number_stays outbox call ∙ was.0,
-     subst (λ (n : ℕ). HasNone (is_foreign n) (after outbox call).frames.frames) was.0
-        (still outbox call (subst (λ (n : ℕ). HasNone (is_foreign n) outbox.frames.frames) (sym was.0) was.1)))
+    let outbox : Outbox = after_all number before in (
+      number_stays outbox call ∙ was.0,
+      subst (λ (n : ℕ). HasNone (is_foreign n) (after outbox call).frames.frames) was.0
+          (still outbox call (subst (λ (n : ℕ). HasNone (is_foreign n) outbox.frames.frames) (sym was.0) was.1)),
+    )
 
 pub taken_is_own : (number : ℕ) (calls : List Call) (frame : Frame) → slice_get (after_all number calls).frames.frames 0 ≡ Some frame →
     frame.number ≡ number
 taken_is_own number calls frame first =
     let is : (frame.number == number) ≡ true = not-false (frame.number == number)
-        (first_of (is_foreign number) (after_all number calls).frames.frames frame (own number calls).1 first) in
+    (first_of (is_foreign number) (after_all number calls).frames.frames frame (own number calls).1 first) in
     grind (arith, nat_tests, is)

@@ -52,5 +52,5 @@ pub never_taken : (number : ℕ) (calls : List Call) (sequence : ℕ) (frame : F
 never_taken number calls sequence frame is first =
     first_of (is_of sequence) (after_all number calls).frames.frames frame
     (subst (λ (cs : List Call). HasNone (is_of sequence) (after_all number cs).frames.frames) (sym is.calls_are)
-        (since_then number sequence is.before is.since is.is_not_put))
+    (since_then number sequence is.before is.since is.is_not_put))
     first

@@ -1,9 +1,9 @@
 -- What a timepiece tells, beside the system's clock.
-use Rattle.std.proofs.Common.{◌≡◌, ◌⊎◌, ℕ, ◌≤◌, Bool, true, false, cond, Option, Some, None, refl, sym, ap, subst, ◌∙◌, inl, inr, arith}
+use Rattle.std.proofs.Common.{◌≡◌, ◌⊎◌, ℕ, ◌≤◌, Bool, true, false, Option, Some, None, refl, inl, inr, arith}
 use Rattle.std.proofs.lemmas.Bool.{cases_Bool}
 use Rattle.std.proofs.lemmas.Bool.Decides.{nat_tests}
 use Rattle.std.specs.Prelude.{max, nat_lt}
-use Rattle.connection_parts.specs.Timepieces.{Timepiece, after, expected, gone, is_near, is_new}
+use Rattle.connection_parts.specs.Timepieces.{Timepiece, after, expected, is_near, is_new}
 use Rattle.connection_parts.specs.TimepieceLaws.{AreNear, IsAwaited, IsLeft}
 
 abbrev IsTold : Timepiece → ℕ → ℕ → Timepiece → Type 0

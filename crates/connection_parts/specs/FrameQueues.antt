@@ -1,5 +1,5 @@
 -- The frames that wait on a connection (own).
-use Rattle.std.specs.Prelude.{ℕ, ◌==◌, ◌&&◌, ◌||◌, ◌++◌, ◌∷◌, [], Bool, true, List, length, drop, nat_lt, not, if◌then◌else◌}
+use Rattle.std.specs.Prelude.{◌==◌, ◌&&◌, ◌||◌, ◌++◌, ◌∷◌, [], Bool, true, List, length, drop, nat_lt, not, if◌then◌else◌}
 
 -- the oldest first
 pub record FrameQueue (F : Type 0) : Type 0 where

@@ -1,7 +1,7 @@
 //! A frame that is to be written.
 
-ghost use Rattle.std.specs.Prelude.{◌≡◌, None, Some, option_map, IfOk, IfSome, IsOk, OnErr};
-ghost use Rattle.pdu_codec.specs.Pdu.{octets_of, read_pdu};
+ghost use Rattle.std.specs.Prelude.{◌≡◌, None, Some, option_map, IfOk, IfSome};
+ghost use Rattle.pdu_codec.specs.Pdu.{octets_of};
 ghost use Rattle.sessions.specs.Responses.{pdu_of};
 ghost use Rattle.esme_service.specs.Sendings.{AreOctetsOf, number_of};
 ghost use Rattle.connection_parts.specs.Fitting.{fitted_for};
@@ -60,11 +60,7 @@ impl Frame {
 
     /// The frame of a delivery, whose deliver_sm these octets are, with its optional parameters: without those if the ESME knows none (SMPP 3.4, section
     /// 5.2.4). None if it knows none and the text is one of them, or the octets are no deliver_sm. An `Err` is want of memory.
-    pub fn of_attempt(
-        alloc: Global,
-        job: &Job,
-        octets: &[u8],
-    ) -> Result<Option<Frame>, AllocError>
+    pub fn of_attempt(alloc: Global, job: &Job, octets: &[u8]) -> Result<Option<Frame>, AllocError>
         ensures number { IfOk result (λ frame. IfSome frame (λ frame. frame.number ≡ job.now.pushed.number)) }
         ensures octets { IfOk result (λ frame. option_map (λ frame. frame.octets.items) frame
             ≡ fitted_for job.now.pushed.knows_optional job.now.long octets.now) }

@@ -16,8 +16,8 @@ pub use fitting::without_optional;
 pub use frame::Frame;
 pub use frame_queue::{FrameQueue, MANY_FRAMES, MOST_FRAMES};
 pub use laws::{
-    no_frame_of_another_session_is_taken, only_what_was_sent_is_answered, time_is_near_left_or_awaited,
-    what_was_taken_back_is_never_taken,
+    no_frame_of_another_session_is_taken, only_what_was_sent_is_answered,
+    time_is_near_left_or_awaited, what_was_taken_back_is_never_taken,
 };
 pub use moments::moment_at;
 pub use outbox::{Outbox, Withdrawal};

@@ -84,5 +84,9 @@ fn a_frame_of_another_session_is_not_put(rt: HostRuntime) {
     let own = put(&rt, rt.alloc(), &mut outbox, 2, None);
     let taken = [taken(&mut outbox), taken(&mut outbox)];
     drop(outbox);
-    assert_same(&rt, &([other, own], taken), &([false, true], [Some(2), None]));
+    assert_same(
+        &rt,
+        &([other, own], taken),
+        &([false, true], [Some(2), None]),
+    );
 }

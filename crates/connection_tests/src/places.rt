@@ -19,7 +19,10 @@ fn an_answer_to_what_was_sent_is_told_once(rt: HostRuntime) {
     let idle = (place.is_free(), place.is_idle(), place.is_shut());
     let given = (place.give(job(&rt, alloc, 7)), place.take(), place.send());
     let waiting = (place.waits(), place.is_free(), place.is_idle());
-    let answered = [place.answer(8, answer(&rt, alloc, 8)), place.answer(7, answer(&rt, alloc, 7))];
+    let answered = [
+        place.answer(8, answer(&rt, alloc, 8)),
+        place.answer(7, answer(&rt, alloc, 7)),
+    ];
     let told = [told(&mut place), told(&mut place)];
     place.end();
     let over = (place.waits(), place.is_free());
@@ -38,7 +41,10 @@ fn an_answer_to_what_was_sent_is_told_once(rt: HostRuntime) {
 fn an_answer_to_what_was_not_sent_tells_nothing(rt: HostRuntime) {
     let alloc = rt.alloc();
     let mut place = Place::free();
-    let given = [place.give(job(&rt, alloc, 7)), place.give(job(&rt, alloc, 8))];
+    let given = [
+        place.give(job(&rt, alloc, 7)),
+        place.give(job(&rt, alloc, 8)),
+    ];
     let answered = place.answer(7, answer(&rt, alloc, 7));
     let late = (place.take(), place.send(), told(&mut place));
     let over = (place.take().is_none(), place.is_idle());
@@ -76,7 +82,11 @@ fn a_job_that_is_given_up_has_no_answer(rt: HostRuntime) {
         place.send(),
     ];
     let given_up = [place.give_up(8), place.give_up(7), place.give_up(7)];
-    let late = (place.waits(), place.answer(7, answer(&rt, alloc, 7)), told(&mut place));
+    let late = (
+        place.waits(),
+        place.answer(7, answer(&rt, alloc, 7)),
+        told(&mut place),
+    );
     drop(place);
     assert_same(&rt, &(sent, given_up), &([true; 3], [false, true, false]));
     assert_same(&rt, &late, &(false, false, None));
@@ -92,9 +102,17 @@ fn a_job_of_a_place_that_is_shut_has_no_answer(rt: HostRuntime) {
         place.send(),
     ];
     place.shut();
-    let late = (place.waits(), place.answer(7, answer(&rt, alloc, 7)), told(&mut place));
+    let late = (
+        place.waits(),
+        place.answer(7, answer(&rt, alloc, 7)),
+        told(&mut place),
+    );
     place.end();
-    let shut = (place.is_shut(), place.is_idle(), place.give(job(&rt, alloc, 8)));
+    let shut = (
+        place.is_shut(),
+        place.is_idle(),
+        place.give(job(&rt, alloc, 8)),
+    );
     drop(place);
     assert_same(&rt, &(sent, late), &([true; 3], (false, false, None)));
     assert_same(&rt, &shut, &(true, false, false));

@@ -81,7 +81,9 @@ pub fn answer(rt: &impl Abort, alloc: Global, sequence: u8) -> HeardPdu {
     let mut service = bound(rt, &config, alloc, BIND);
     let _ = pushed(rt, alloc, &mut service, u32::from(sequence));
     let response = [0, 0, 0, 17, 0x80, 0, 0, 5, 0, 0, 0, 0, 0, 0, 0, sequence, 0];
-    let heard = service.hear(&config, NUMBER, &response).expect(rt, "memory");
+    let heard = service
+        .hear(&config, NUMBER, &response)
+        .expect(rt, "memory");
     drop(service);
     drop(config);
     match heard {

@@ -41,7 +41,10 @@ fn with_state(word: &'static str, number: u64, chain: &Chain) -> Answer {
 /// A reply, with its ticket: behind that `Accepted` has the id of the message, and `Shown` its state.
 fn replied(reply: &Reply) -> Answer {
     match reply.answer() {
-        waiting_requests::Answer::Accepted => ("Accepted", [reply.ticket(), reply.id().number(), 0, 0]),
+        waiting_requests::Answer::Accepted => (
+            "Accepted",
+            [reply.ticket(), reply.id().number(), 0, 0],
+        ),
         waiting_requests::Answer::Shown(chain) => with_state("Shown", reply.ticket(), chain),
         waiting_requests::Answer::Removed(_) => with_number("Removed", reply.ticket()),
         waiting_requests::Answer::Kept(_) => with_number("Kept", reply.ticket()),

@@ -94,7 +94,11 @@ fn a_reply_is_of_one_ticket_and_one_answer(rt: HostRuntime) {
 #[test]
 fn a_reply_that_is_too_late_is_of_its_ticket(rt: HostRuntime) {
     let reply = Reply::too_late(7, id(&rt));
-    let told = (reply.ticket(), reply.id() == id(&rt), reply.answer().is(&Answer::TooLate));
+    let told = (
+        reply.ticket(),
+        reply.id() == id(&rt),
+        reply.answer().is(&Answer::TooLate),
+    );
     drop(reply);
     assert_same(&rt, &told, &(7, true, true));
 }

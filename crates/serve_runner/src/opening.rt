@@ -134,7 +134,10 @@ pub(crate) fn begin_all(
 /// Why a server does not serve whose nodes do not open.
 fn fault_of(fault: StartFault) -> ServeFault {
     match fault {
-        StartFault::Open(node, fault) => ServeFault::Stores(StoresFault::Store(node.number(), fault)),
+        StartFault::Open(node, fault) => ServeFault::Stores(StoresFault::Store(
+            node.number(),
+            fault,
+        )),
         StartFault::Nodes | StartFault::Memory => ServeFault::Memory,
     }
 }

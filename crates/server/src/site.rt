@@ -151,7 +151,10 @@ impl Site {
         number: u8,
         outgoing: Outgoing,
     ) -> Result<(), AllocError> {
-        self.post(rt, Frame::of_response(self.alloc, system_id, number, outgoing)?);
+        self.post(
+            rt,
+            Frame::of_response(self.alloc, system_id, number, outgoing)?,
+        );
         Ok(())
     }
 
