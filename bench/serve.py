@@ -3,6 +3,7 @@
 costs; and beside it what others do that do a part of its work.
 
     python3 bench/serve.py PROGRAM [MESSAGES [CENTRE]]
+    python3 bench/serve.py --idle PROGRAM
 
 A client at each node binds over a plain socket of 127.0.0.1, keeps ten submit_sm open, and gets its own messages back, each of which it answers at once; no
 receipt is asked for. MESSAGES (1,000) are shared among the clients of a run. Printed for each run are the submit_sm answered in a second, up to the last
@@ -22,6 +23,9 @@ percentile of the milliseconds from a submit_sm to its response, and to the deli
 
 Then what waits for others: at one node in memory 20,000 and 90,000 messages wait for an account that is away, or whose ESME takes ten and answers none. Printed
 are the messages of another account that are delivered a second meanwhile, of 2,000, and the 99th percentile of the answers to their submit_sm.
+
+Then, or with --idle alone, comes what `serve` takes that nobody is connected to: how often its threads go to sleep in a second, of /proc/PID/task, so how often
+they wake, and its processor time a second.
 
 Last come the fdatasync and fsync that `serve` itself makes for a message, by strace, in runs of their own (if strace is there).
 """
@@ -50,6 +54,8 @@ NODES = (1, 3, 9)
 DELAY_NODES, DELAY_SECONDS = 3, 20
 WAITING, WAITING_MESSAGES = (0, 20_000, 90_000), 2_000
 SYNCS, SYNC_SECONDS = 500, 2
+IDLE_SECONDS, BEFORE_IDLE = 20, 3
+SLEEPS = re.compile(r"^voluntary_ctxt_switches:\s+(\d+)", re.M)
 SYNC = re.compile(r"\b(?:fdatasync|fsync)\(")
 PART = re.compile(r"part \d+: .*, closed in (\d+) ms")
 
@@ -330,6 +336,36 @@ def count_syncs(program, folder, nodes, messages):
         serving.end()
 
 
+def sleeps(pid):
+    """How often the threads of a process have gone to sleep."""
+    tasks = pathlib.Path(f"/proc/{pid}/task").glob("*/status")
+    return sum(int(SLEEPS.search(task.read_text())[1]) for task in tasks)
+
+
+def run_idle(program, folder, nodes):
+    """A line of the table of an idle server."""
+    serving = server_of(program, folder, write_config(folder, nodes, False))
+    try:
+        if not serving.start():
+            sys.exit(f"{name_of(program)} does not serve: {serving.said()}")
+        time.sleep(BEFORE_IDLE)
+        pid = serving.process.pid
+        woken, used = sleeps(pid), processor_seconds(pid)
+        time.sleep(IDLE_SECONDS)
+        woken, used = sleeps(pid) - woken, processor_seconds(pid) - used
+        serving.end()
+    finally:
+        serving.kill()
+    put(nodes, f"{woken / IDLE_SECONDS:,.1f}", f"{1e3 * used / IDLE_SECONDS:.1f} ms")
+
+
+def run_all_idle(program):
+    """The table of an idle server."""
+    print("\n| Nodes, in memory, nobody connected | Wakes a second | Processor time a second |\n|---|---|---|", flush=True)
+    for nodes in NODES:
+        in_a_folder(lambda folder: run_idle(program, folder, nodes))
+
+
 def in_a_folder(do, *arguments):
     """Does something with a folder of its own, which is gone then."""
     folder = pathlib.Path(tempfile.mkdtemp(prefix="serve-"))
@@ -344,8 +380,11 @@ def main():
     reader.add_argument("program", metavar="PROGRAM", type=pathlib.Path)
     reader.add_argument("messages", metavar="MESSAGES", type=int, nargs="?", default=MESSAGES)
     reader.add_argument("centre", metavar="CENTRE", nargs="?")
+    reader.add_argument("--idle", action="store_true", help="measure an idle server alone")
     given = reader.parse_args()
     program, messages = given.program.resolve(), given.messages
+    if given.idle:
+        return run_all_idle(program)
     if not WINDOW <= messages <= MOST_MESSAGES:
         reader.error(f"MESSAGES is {WINDOW} to {MOST_MESSAGES}")
     print("| What | Stores | Messages | Submits answered a second | Delivered a second | Processor time a message | fdatasync a second | Parts closed |")
@@ -372,6 +411,7 @@ def main():
             for is_silent in (False, True) if count else (False,):
                 in_a_folder(lambda folder: run_beside_waiting(server, folder, count, is_silent))
     shutil.rmtree(beside)
+    run_all_idle(program)
     if not shutil.which("strace"):
         sys.exit("strace is not here, so the fdatasync of serve are not counted")
     print("\n| Nodes, over files | Messages | fdatasync and fsync of serve a message |\n|---|---|---|", flush=True)

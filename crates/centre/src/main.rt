@@ -31,7 +31,7 @@ fn main(rt: HostRuntime) -> ExitCode {
             ExitCode::from(run.status())
         }
         Asked::Serve(options) => match ends_with_input(&rt, &rt, options.is_until_end) {
-            Some(asked) => tell_served(&rt, serve_file(&rt, &rt, file, options, asked)),
+            Some(stop) => tell_served(&rt, serve_file(&rt, &rt, file, options, stop)),
             None => tell_memory(&rt),
         },
         Asked::Check(is_strict) => tell_inspected(&rt, inspect(&rt, file), is_strict),

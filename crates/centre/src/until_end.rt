@@ -1,29 +1,29 @@
 //! The end of standard input, at which a server is asked to end.
 
+use serve_runner::Stop;
 use std::io::Read;
 use std::rt::HostRuntime;
 use std::sync::Arc;
-use std::sync::atomic::{AtomicBool, Ordering};
 use std::thread;
 use std::thread::Threads;
 
-/// What says whether a server is asked to end: standard input, if it is to end with that. None if there is no memory for it, or no thread that reads.
+/// What a server is asked to end by: the end of standard input, if it is to end with that. None if there is no memory for it, or no thread that reads.
 pub fn ends_with_input<R: Threads>(
     rt: &R,
     host: &HostRuntime,
     is_until_end: bool,
-) -> Option<Arc<AtomicBool>> {
-    let asked = Arc::new(host.alloc(), AtomicBool::new(false)).ok()?;
+) -> Option<Arc<Stop>> {
+    let stop = Arc::new(host.alloc(), Stop::none()).ok()?;
     if is_until_end {
-        let theirs = Arc::try_clone(&asked).ok()?;
+        let theirs = Arc::try_clone(&stop).ok()?;
         let mut input = host.stdin();
         let reading = thread::spawn(rt, move || {
             read_to_end(&mut input);
-            theirs.store(true, Ordering::SeqCst);
+            theirs.ask();
         });
         let _ = reading.ok()?;
     }
-    Some(asked)
+    Some(stop)
 }
 
 /// Reads and drops what comes, until it ends or can't be read.

@@ -15,7 +15,8 @@ use sessions::Outgoing;
 use std::alloc::{AllocError, Global};
 
 /// The octets of a PDU that is to be written, with the number of the session on which it goes out, and, if it is the deliver_sm of an attempt, the
-/// sequence_number with which that was pushed. None is made but of what a service gives out, and each goes out once at most, since it has no copy.
+/// sequence_number with which that was pushed. What a service sends or pushes says on which session its frame goes out; of a response its caller says that. Each
+/// frame goes out once at most, since it has no copy.
 #[derive(Drop)]
 pub struct Frame {
     number: u8,

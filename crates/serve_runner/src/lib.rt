@@ -14,5 +14,5 @@ pub use asked::{Asked, Options, asked_by};
 pub use fault::ServeFault;
 pub use inspecting::inspect;
 pub use running::serve_file;
-pub use server::{Stamp, stamp_now};
+pub use server::{Stamp, Stop, stamp_now};
 pub use version::PROGRAM;

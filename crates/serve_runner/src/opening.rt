@@ -9,10 +9,11 @@ use cluster_stores::StoresFault;
 use config::{Config, ConfigFault, NodeConfig, Own, read_config, read_own};
 use config_warnings::warnings;
 use node_stores::NodeStore;
-use server::{Defaults, Life, Loaded, Node, StartFault, begin_nodes, load_nodes};
+use server::{Defaults, Entrance, Life, Loaded, Node, StartFault, begin_nodes, load_nodes};
 use std::alloc::{AllocError, Global};
 use std::fs;
-use std::net::{Net, SocketAddr, TcpListener, TcpStream};
+use std::io;
+use std::net::{Net, SocketAddr, SocketAddrV4, TcpListener, TcpStream};
 use std::rt::Files;
 use toml::Value;
 
@@ -147,13 +148,23 @@ pub(crate) fn listen_all<R: Net<Listener = TcpListener, Stream = TcpStream>>(
     rt: &R,
     alloc: Global,
     nodes: &[NodeConfig],
-) -> Result<Vec<TcpListener>, ServeFault> {
-    let mut listeners = Vec::with_capacity(alloc, nodes.len())?;
+) -> Result<Vec<Entrance>, ServeFault> {
+    let mut entrances = Vec::with_capacity(alloc, nodes.len())?;
     for node in nodes {
-        match TcpListener::bind(rt, SocketAddr::from(node.listen)) {
-            Ok(listener) => listeners.push(listener)?,
+        match listen_at(rt, alloc, node.listen) {
+            Ok(entrance) => entrances.push(entrance)?,
             Err(error) => return Err(ServeFault::Listen(node.listen, error)),
         }
     }
-    Ok(listeners)
+    Ok(entrances)
+}
+
+/// Where a node listens, at this address.
+fn listen_at<R: Net<Listener = TcpListener, Stream = TcpStream>>(
+    rt: &R,
+    alloc: Global,
+    address: SocketAddrV4,
+) -> io::Result<Entrance> {
+    let listener = TcpListener::bind(rt, SocketAddr::from(address))?;
+    Entrance::open(rt, alloc, listener)
 }

@@ -1,7 +1,8 @@
 //! A server from its configuration to its end.
 
-ghost use Rattle.std.specs.Prelude.{◌≡◌};
+ghost use Rattle.std.specs.Prelude.{◌≡◌, IfOk};
 ghost use Rattle.server.specs.Actions.{AllBegin};
+ghost use Rattle.server.specs.declared.ending.Ending.TheVariants.{Asked};
 ghost use Rattle.server.specs.Openings.{cluster_of, kept_at};
 ghost use Rattle.serve_runner.specs.Beginnings.{defaults_in};
 
@@ -15,13 +16,12 @@ use config::{Config, NodeConfig};
 use node_stores::NodeStore;
 use server::{
     Beginning, Defaults, Doors, Ending, LAST_INCARNATION, Life, MOST_SEATS, Served, Settings,
-    serve, stamp_now,
+    Stop, serve, stamp_now,
 };
 use std::alloc::{AllocError, Global};
 use std::marker::Brand;
 use std::net::{Net, TcpListener, TcpStream};
 use std::rt::{Clock, Files, HostRuntime};
-use std::sync::atomic::AtomicBool;
 use std::sync::ledger::Blank;
 use std::sync::{Arc, Wait};
 use std::thread::Threads;
@@ -47,10 +47,10 @@ pub fn serve_file<
     host: &HostRuntime,
     path: &str,
     options: Options,
-    asked: Arc<AtomicBool>,
+    stop: Arc<Stop>,
 ) -> Result<u64, ServeFault> {
     let standard = fill_standard(rt)?;
-    let served = serve_by(rt, host, path, options, asked);
+    let served = serve_by(rt, host, path, options, stop);
     drop(standard);
     served
 }
@@ -70,7 +70,7 @@ fn serve_by<
     host: &HostRuntime,
     path: &str,
     options: Options,
-    asked: Arc<AtomicBool>,
+    stop: Arc<Stop>,
 ) -> Result<u64, ServeFault> {
     let Configured {
         config,
@@ -83,7 +83,7 @@ fn serve_by<
         return Err(ServeFault::Memory);
     };
     let loaded = load_all(alloc, stores, defaults)?;
-    let listeners = listen_all(rt, alloc, &config.nodes)?;
+    let entrances = listen_all(rt, alloc, &config.nodes)?;
     let (nodes, lives) = begin_all(alloc, loaded)?;
     tell_start(rt, &config, &lives);
     let _ = rt.eprint(warned.as_str());
@@ -92,12 +92,12 @@ fn serve_by<
         blank: Blank::new(MOST_SEATS),
         nodes,
     };
-    let doors = Doors { listeners, lives };
+    let doors = Doors { entrances, lives };
     let settings = Settings {
         config,
         own,
         is_quiet: options.is_quiet,
-        asked,
+        stop,
     };
     ended(serve_over(rt, alloc, beginning, doors, settings)?)
 }
@@ -118,7 +118,9 @@ fn serve_over<R: Threads + Wait + Clock + Eprint + Sync>(
 }
 
 /// How many entries the journal of a server has that was asked to end; else why it ended.
-fn ended(served: Served<NodeStore>) -> Result<u64, ServeFault> {
+fn ended(served: Served<NodeStore>) -> Result<u64, ServeFault>
+    ensures { IfOk result (λ entries. (served.ending ≡ Asked) × (entries ≡ served.entries)) }
+{
     let Served {
         ending,
         entries,

@@ -24,6 +24,7 @@ pub struct Clients {
     addresses: Addresses,
     first: Option<TcpStream>,
     second: Option<TcpStream>,
+    third: Option<TcpStream>,
 }
 
 /// A connection to a server that may still be beginning.
@@ -72,6 +73,7 @@ impl Clients {
             addresses,
             first: None,
             second: None,
+            third: None,
         }
     }
 
@@ -90,10 +92,22 @@ impl Clients {
                 let seconds = seconds.parse().ok().expect(rt, "seconds");
                 thread::sleep(rt, Duration::from_secs(seconds));
             }
-            ("1", "at") => self.first = Some(connected(rt, self.addresses[0])),
-            ("2", "at") => self.second = Some(connected(rt, self.addresses[1])),
-            ("1", _) => talk(rt, alloc, &mut self.first, line, (what, digits)),
-            (_, _) => talk(rt, alloc, &mut self.second, line, (what, digits)),
+            (_, "at") => {
+                let [first, second] = self.addresses;
+                let address = if digits == "1" { first } else { second };
+                *self.stream(word) = Some(connected(rt, address));
+            }
+            (_, "gone") => *self.stream(word) = None,
+            (_, _) => talk(rt, alloc, self.stream(word), line, (what, digits)),
+        }
+    }
+
+    /// The connection of the client of this number.
+    fn stream(&mut self, number: &str) -> &mut Option<TcpStream> {
+        match number {
+            "1" => &mut self.first,
+            "2" => &mut self.second,
+            _ => &mut self.third,
         }
     }
 }

@@ -2,7 +2,7 @@
 
 use std::alloc::Global;
 use std::fs;
-use std::net::{Net, SocketAddr, TcpListener, TcpStream};
+use std::net::{Ipv4Addr, Net, SocketAddr, SocketAddrV4, TcpListener, TcpStream};
 use std::process::Abort;
 use std::rt::HostRuntime;
 
@@ -48,6 +48,21 @@ fn free_address<R: Abort + Net<Listener = TcpListener, Stream = TcpStream>>(rt: 
 /// Two free ports of this machine.
 pub fn addresses<R: Abort + Net<Listener = TcpListener, Stream = TcpStream>>(rt: &R) -> Addresses {
     [free_address(rt), free_address(rt)]
+}
+
+/// Another address of this machine.
+const ELSEWHERE: Ipv4Addr = Ipv4Addr::new(127, 0, 0, 2);
+
+/// A server listens at these addresses, and at no other one of this machine: their ports are free there.
+pub fn assert_alone<R: Abort + Net<Listener = TcpListener, Stream = TcpStream>>(
+    rt: &R,
+    addresses: Addresses,
+) {
+    for address in addresses {
+        let other = SocketAddr::from(SocketAddrV4::new(ELSEWHERE, address.port()));
+        let listener = TcpListener::bind(rt, other).expect(rt, "a free port elsewhere");
+        drop(listener);
+    }
 }
 
 /// What an earlier run left is removed.

@@ -1,7 +1,8 @@
 //! What clients write and have to hear, in lines: `NUMBER at NODE` connects the client of this number, `NUMBER > DIGITS` writes octets, `NUMBER < DIGITS` hears
-//! just these, where `.` stands for any digit, and `wait SECONDS` waits. Lines that begin with `#` are for readers. `tools/pdu.py` wrote the digits.
+//! just these, where `.` stands for any digit, `NUMBER gone` closes its connection, and `wait SECONDS` waits. Lines that begin with `#` are for readers.
+//! `tools/pdu.py` wrote the digits.
 
-/// sme1 at node 1 submits a message with a receipt to 255, which is sme2's, bound at node 2; then one for later, which it cancels.
+/// sme1 at node 1 submits a message with a receipt to 255, which is sme2's, bound at node 2 behind another session of sme1; then one for later, which it cancels.
 pub const FIRST: &str = "\
 1 at 1
 # a wrong password: 0x0E
@@ -10,6 +11,10 @@ pub const FIRST: &str = "\
 # bind_transceiver of sme1
 1 > 0000001e000000090000000000000002736d653100707731000034000000
 1 < 0000001c80000009000000000000000243454e545245000210000134
+3 at 2
+# bind_transmitter of sme1, the first session of node 2
+3 > 0000001e000000020000000000000001736d653100707731000034000000
+3 < 0000001c80000002000000000000000143454e545245000210000134
 2 at 2
 # bind_transceiver of sme2
 2 > 0000001e000000090000000000000001736d653200707732000034000000
@@ -31,6 +36,18 @@ pub const FIRST: &str = "\
 # query_sm: DELIVERED
 1 > 000000210000000300000000000000053130303031303030303100010131343400
 1 < 0000002e8000000300000000000000053130303031303030303100........................3030302b000200
+# query_sm by sme2: a message of another account, 0x67
+2 > 000000210000000300000000000000023130303031303030303100010131343400
+2 < 00000010800000030000006700000002
+# nothing went to the first session of node 2: an enquire_link is answered next
+3 > 00000010000000150000000000000002
+3 < 00000010800000150000000000000002
+# who has its number next is not bound: 0x04
+3 gone
+wait 1
+3 at 2
+3 > 0000002900000004000000000000000100010131343400010131353500000000000000000000024869
+3 < 00000010800000040000000400000001
 # submit_sm for three seconds later, and its cancel_sm
 1 > 000000390000000400000000000000060001013134340001013235350000000030303030303030303030303330303052000000000000024e6f
 1 < 0000001b8000000400000000000000063130303031303030303200

@@ -1,19 +1,18 @@
 //! A server that is served from a file twice, over the same stores.
 
 use crate::client::Clients;
-use crate::home::{Addresses, CONFIG, addresses, clear, configure};
+use crate::home::{Addresses, CONFIG, addresses, assert_alone, clear, configure};
 use crate::plays::{FIRST, SECOND};
-use serve_runner::{Options, serve_file};
+use serve_runner::{Options, Stop, serve_file};
 use std::alloc::Global;
 use std::net::{Net, TcpListener, TcpStream};
 use std::process::Abort;
 use std::rt::{Clock, Files, HostRuntime};
-use std::sync::atomic::{AtomicBool, Ordering};
 use std::sync::{Arc, Wait};
 use std::thread;
 use std::thread::Threads;
 
-/// Clients do what these lines say.
+/// Clients do what these lines say, and the server listens at no other address.
 fn talked<R: Abort + Clock + Net<Listener = TcpListener, Stream = TcpStream>>(
     rt: &R,
     alloc: Global,
@@ -25,6 +24,7 @@ fn talked<R: Abort + Clock + Net<Listener = TcpListener, Stream = TcpStream>>(
         clients.play(rt, alloc, line);
     }
     drop(clients);
+    assert_alone(rt, addresses);
 }
 
 /// Serves by the configuration in the file while clients do what these lines say, and asks the server to end. It ends well, and its journal has entries.
@@ -40,8 +40,8 @@ fn served<
         + Sync,
 >(rt: &R, host: &HostRuntime, addresses: Addresses, lines: &'static str) {
     let alloc = rt.alloc();
-    let asked = Arc::new(alloc, AtomicBool::new(false)).expect(rt, "memory");
-    let theirs = Arc::try_clone(&asked).expect(rt, "a share");
+    let stop = Arc::new(alloc, Stop::none()).expect(rt, "memory");
+    let theirs = Arc::try_clone(&stop).expect(rt, "a share");
     let options = Options {
         is_quiet: true,
         is_until_end: false,
@@ -49,7 +49,7 @@ fn served<
     let entries = thread::scope(thread::scope_env(), rt, move |scope| -> u64 {
         let clients = scope.spawn(move || {
             talked(rt, alloc, addresses, lines);
-            asked.store(true, Ordering::SeqCst);
+            stop.ask();
         });
         let ended = serve_file(rt, host, CONFIG, options, theirs);
         match clients {

@@ -8,14 +8,13 @@ ghost use Rattle.serve_tests.specs.Beginnings.{defaults_in};
 use crate::clients::Client;
 use config::{Config, Own};
 use node_threads::{Defaults, Life, Node, open_nodes, opened_nodes_begin};
-use server::{Beginning, Doors, Ending, Served, Settings, serve};
+use server::{Beginning, Doors, Ending, Entrance, Served, Settings, Stop, serve};
 use stable_store::StableStore;
 use std::alloc::Global;
 use std::marker::Brand;
 use std::net::{Net, SocketAddr, TcpListener, TcpStream};
 use std::process::Abort;
 use std::rt::Clock;
-use std::sync::atomic::AtomicBool;
 use std::sync::ledger::Blank;
 use std::sync::{Arc, Wait};
 use std::thread;
@@ -89,7 +88,7 @@ fn settings(rt: &impl Abort, alloc: Global, case: Case) -> Settings {
             ends_full: false,
         },
         is_quiet: true,
-        asked: Arc::new(alloc, AtomicBool::new(false)).expect(rt, "memory"),
+        stop: Arc::new(alloc, Stop::none()).expect(rt, "memory"),
     }
 }
 
@@ -113,15 +112,15 @@ fn made<S: StableStore + Drop>(
     rt: &impl Abort,
     alloc: Global,
     store: S,
-    listener: TcpListener,
+    entrance: Entrance,
     case: Case,
 ) -> Opening<S>
     ensures parts { result.beginning.blank.parts ≡ 1000000 }
     ensures begin { AllBegin (cluster_of result.beginning.nodes.items (defaults_in result.settings.config))
         (kept_at result.beginning.nodes.items (defaults_in result.settings.config)) result.beginning.nodes.items }
 {
-    let mut listeners = Vec::new(alloc);
-    listeners.push(listener).expect(rt, "memory");
+    let mut entrances = Vec::new(alloc);
+    entrances.push(entrance).expect(rt, "memory");
     let settings = settings(rt, alloc, case);
     let defaults = defaults_of(rt, &settings.config);
     let (nodes, lives) = opened(rt, alloc, store, defaults);
@@ -130,7 +129,7 @@ fn made<S: StableStore + Drop>(
             blank: Blank::new(PARTS),
             nodes,
         },
-        doors: Doors { listeners, lives },
+        doors: Doors { entrances, lives },
         settings,
     }
 }
@@ -180,7 +179,8 @@ pub fn served<
 >(rt: &R, alloc: Global, store: S, case: Case) -> (Vec<Vec<u8>>, Ended) {
     let listener = TcpListener::bind(rt, "127.0.0.1:0").expect(rt, "a port");
     let address = listener.local_addr().expect(rt, "an address");
-    let start = made(rt, alloc, store, listener, case);
+    let entrance = Entrance::open(rt, alloc, listener).expect(rt, "an entrance");
+    let start = made(rt, alloc, store, entrance, case);
     thread::scope(
         thread::scope_env(),
         rt,

@@ -55,7 +55,7 @@ fn attend_on<
             if start_workers(shift, scope, arrival).is_err() {
                 return Some(Reason::NoThread);
             }
-            shift.station.bell.call(shift.rt, 0);
+            shift.station.bell.call(0);
         }
         connection.wait_to_serve(shift.rt);
         is_receiver = match connection.next(shift.rt) {
@@ -148,6 +148,7 @@ pub(crate) fn end<S: StableStore, L: Begins, R: Wait + Eprint + Clock>(
     if let Err(trouble) = leave(shift, number) {
         shift.meet(trouble);
     }
+    shift.station.news.ring();
     shift.tell_of(number, Notice::Ended(reason), whom);
     shift.shared.house.count_end(shift.rt);
 }

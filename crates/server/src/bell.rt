@@ -1,43 +1,38 @@
 //! What wakes the thread in which a node ticks.
 
-use crossbeam_channel::{Receiver, Sender, bounded};
-use std::alloc::{AllocError, Global};
-use std::rt::Clock;
+use crate::signal::Signal;
 use std::sync::Wait;
 use std::sync::atomic::{AtomicU64, Ordering};
-use std::time::Duration;
 
-/// What wakes the thread in which a node ticks: that something is due there, so that it is to tick at once, or that packets have come which it waits for.
+/// What wakes the thread in which a node ticks: that something is due there, so that it is to tick at once, that packets have come which it waits for, or that the
+/// life of the node is over.
 #[derive(Drop)]
 pub(crate) struct Bell {
     // Of what is due first, the number of the first packet that need not have come before the node ticks at once; 0 if nothing is due.
     due: AtomicU64,
     // The same of what was due last.
     last: AtomicU64,
-    rings: Sender<()>,
-    heard: Receiver<()>,
+    signal: Signal,
 }
 
 impl Bell {
-    /// It is silent, and nothing is due. An `Err` is want of memory; later it takes none.
-    pub(crate) fn silent(alloc: Global) -> Result<Bell, AllocError> {
-        let (rings, heard) = bounded(alloc, 1)?;
-        Ok(Bell {
+    /// It is silent, and nothing is due.
+    pub(crate) fn silent() -> Bell {
+        Bell {
             due: AtomicU64::new(0),
             last: AtomicU64::new(0),
-            rings,
-            heard,
-        })
+            signal: Signal::silent(),
+        }
     }
 
     /// Something is due at the node once the packets up to this number have come to it.
-    pub(crate) fn call<R: Wait>(&self, rt: &R, number: u64) {
+    pub(crate) fn call(&self, number: u64) {
         let behind = number.saturating_add(1);
         let _ = self.last.fetch_max(behind, Ordering::SeqCst);
         if !self.call_alone(behind) {
             let _ = self.due.fetch_min(behind, Ordering::SeqCst);
         }
-        self.ring(rt);
+        self.ring();
     }
 
     /// If nothing is due, something is from now on; whether nothing was.
@@ -68,12 +63,12 @@ impl Bell {
     }
 
     /// The thread wakes, if it waits, and else does not wait the next time.
-    pub(crate) fn ring<R: Wait>(&self, rt: &R) {
-        let _ = self.rings.try_send(rt, ());
+    pub(crate) fn ring(&self) {
+        self.signal.ring();
     }
 
-    /// Waits until it rings, so long at most; whether it rang.
-    pub(crate) fn wait<R: Wait + Clock>(&self, rt: &R, most: Duration) -> bool {
-        self.heard.recv_timeout(rt, most).is_ok()
+    /// Waits until it rings, so many milliseconds at most. It may end before that.
+    pub(crate) fn wait<R: Wait>(&self, rt: &R, most: u64) {
+        self.signal.wait(rt, most);
     }
 }

@@ -19,7 +19,7 @@ pub(crate) fn carry_on<S: StableStore, L: Begins, R: Wait + Eprint + Clock>(
     shift: &Shift<'_, S, L, R>,
 ) {
     let Some(mut seat) = shift.seat() else {
-        shift.shared.house.end.set(shift.rt, Ending::Threads);
+        shift.shared.house.end_by(shift.rt, Ending::Threads);
         return;
     };
     hand_in(shift, &mut seat, shift.shared.house.newest());
@@ -59,7 +59,7 @@ fn carry_to<S: StableStore, L: Begins, R: Wait + Eprint + Clock>(
             .station
             .next
             .store(number.saturating_add(1), Ordering::SeqCst);
-        shift.shared.house.pass(shift.rt, shift.station, number);
+        shift.shared.house.pass(shift.station, number);
     }
     Ok(())
 }

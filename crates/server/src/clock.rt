@@ -69,6 +69,14 @@ impl Mark {
         gone_since(rt, &self.at).unwrap_or(0)
     }
 
+    /// How many of so many milliseconds are left since then; 0 if the clock could not be read.
+    pub(crate) fn left<R: Clock>(&self, rt: &R, most: u64) -> u64 {
+        match gone_since(rt, &self.at) {
+            Some(gone) => most.saturating_sub(gone),
+            None => 0,
+        }
+    }
+
     /// Whether it was so many milliseconds ago or more, or the clock could not be read.
     pub(crate) fn is_past<R: Clock>(&self, rt: &R, most: u64) -> bool {
         match gone_since(rt, &self.at) {

@@ -1,9 +1,13 @@
 //! A connection with an ESME.
 
+ghost use Rattle.std.specs.Prelude.{◌≡◌};
+
 use crate::berth::Berth;
 use crate::clock::milliseconds_since;
 use crate::inbox::{Inbox, Next};
 use crate::notice::{Name, Reason, Whom};
+use crate::signal::Signal;
+use config::Own;
 use connection_parts::{Frame, Job, Outbox, Withdrawal};
 use octet_io::CountedWriter;
 use std::alloc::{AllocError, Global};
@@ -12,17 +16,13 @@ use std::net::{Shutdown, SocketAddr, TcpStream};
 use std::rt::Clock;
 use std::sync::atomic::{AtomicBool, Ordering};
 use std::sync::{Condvar, Mutex, Wait};
-use std::thread;
 use std::time::{Duration, Instant};
 
 /// How many deliveries of a connection are under way at most: as many as its window has places.
 pub(crate) const WORKERS: usize = 10;
 
-/// How often it is looked whether what waits on a connection has gone out, once its session is over: for 30 seconds.
-const LAST_LOOKS: usize = 600;
-
-/// How long it is slept between two looks, in milliseconds.
-const LAST_PAUSE: u64 = 50;
+/// For how long it is waited that what waits on a connection goes out, once its session is over, in milliseconds.
+const LAST_PATIENCE: u64 = 30_000;
 
 /// For how long it is looked whether a stream stands on which a read failed, in milliseconds.
 const PROBE: u64 = 1;
@@ -34,6 +34,21 @@ pub(crate) struct Wire {
     pub(crate) address: SocketAddr,
     pub(crate) idle_seconds: u32,
     pub(crate) write_seconds: u32,
+}
+
+impl Wire {
+    /// A stream from this address, by the limits of the configuration.
+    pub(crate) fn of(stream: TcpStream, address: SocketAddr, own: &Own) -> Wire
+        ensures idle { result.idle_seconds ≡ own.now.idle_seconds }
+        ensures write { result.write_seconds ≡ own.now.write_seconds }
+    {
+        Wire {
+            stream,
+            address,
+            idle_seconds: own.idle_seconds,
+            write_seconds: own.write_seconds,
+        }
+    }
 }
 
 /// A connection with an ESME: its stream, what came and waits to be served, what waits to be written, and the places of its workers. Threads share it: who
@@ -51,8 +66,9 @@ pub(crate) struct Connection {
     came: Condvar,
     outbox: Mutex<Outbox>,
     changed: Condvar,
-    /// Whether nothing is written any more.
+    /// Whether nothing is written any more, and what wakes who waits for that.
     is_through: AtomicBool,
+    through: Signal,
     berths: Vec<Berth>,
     /// Whether who serves and the workers rest, until the next life of their node.
     rests: AtomicBool,
@@ -83,6 +99,7 @@ impl Connection {
             outbox: Mutex::new(Outbox::make(alloc, number)?),
             changed: Condvar::new(),
             is_through: AtomicBool::new(false),
+            through: Signal::silent(),
             berths,
             rests: AtomicBool::new(false),
             is_attended: AtomicBool::new(false),
@@ -212,6 +229,7 @@ impl Connection {
         }
         let _ = self.wire.stream.shutdown(Shutdown::Both);
         self.is_through.store(true, Ordering::SeqCst);
+        self.through.ring();
     }
 
     /// Why a write failed that began then: it waited for too long, if it may not wait for ever and waited for as long as it may.
@@ -232,13 +250,12 @@ impl Connection {
             self.changed
                 .wait_while(rt, outbox, |outbox| !outbox.is_shut()),
         );
-        for _ in 0..LAST_LOOKS {
-            if self.is_through.load(Ordering::SeqCst) {
-                return;
-            }
-            thread::sleep(rt, Duration::from_millis(LAST_PAUSE));
+        let is_through = self
+            .through
+            .wait_until(rt, LAST_PATIENCE, &|| self.is_through.load(Ordering::SeqCst));
+        if !is_through {
+            self.lose(rt, Reason::Deaf);
         }
-        self.lose(rt, Reason::Deaf);
     }
 
     /// The next PDU to be written, for which it waits; none once nothing is to come any more. The one before it is written.

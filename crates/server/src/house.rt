@@ -7,6 +7,7 @@ use crate::notice::{Notice, Reason, VisibleText};
 use crate::pace::Pace;
 use crate::spread::Spread;
 use crate::station::{Station, Wake};
+use crate::stop::Stop;
 use config::{Config, Own};
 use connection_parts::{Tally, Timepiece};
 use mc_types::{Moment, NodeNo};
@@ -28,8 +29,8 @@ pub(crate) struct House {
     pub(crate) stations: Vec<Station>,
     pub(crate) log: Log,
     pub(crate) end: End,
-    /// Whether it is asked to end.
-    pub(crate) asked: Arc<AtomicBool>,
+    /// What it is asked to end by, which wakes the thread that watches it.
+    pub(crate) stop: Arc<Stop>,
     pub(crate) counters: Counters,
     pub(crate) pace: Pace,
     /// When it began, by the clock that rises alone; none if that can't be read.
@@ -49,8 +50,8 @@ pub(crate) struct Counters {
     ended: AtomicU64,
     /// The greatest number of a packet that nodes were told of.
     newest: AtomicU64,
-    /// How often it was looked whether the server ends, since counts were told.
-    looks: AtomicU64,
+    /// When counts were told, in milliseconds since the server began.
+    told: AtomicU64,
     /// How often there was no memory for what was asked for, since that was told.
     wants: AtomicU64,
     /// Whether it was told that all nodes may be served.
@@ -69,7 +70,7 @@ impl Counters {
             connections: AtomicU64::new(0),
             ended: AtomicU64::new(0),
             newest: AtomicU64::new(0),
-            looks: AtomicU64::new(0),
+            told: AtomicU64::new(0),
             wants: AtomicU64::new(0),
             serves: AtomicBool::new(false),
             parts: AtomicU64::new(0),
@@ -84,13 +85,13 @@ impl Counters {
         self.connections.fetch_add(1, Ordering::SeqCst)
     }
 
-    /// It was looked whether the server ends; whether that was so often since this was last so.
-    pub(crate) fn look(&self, most: u64) -> bool {
-        let looks = self.looks.fetch_add(1, Ordering::SeqCst).saturating_add(1);
-        if looks >= most {
-            self.looks.store(0, Ordering::SeqCst);
+    /// Whether counts were told so many milliseconds ago or more, at this moment, in milliseconds since the server began: they are told now then.
+    pub(crate) fn are_due(&self, now: u64, gap: u64) -> bool {
+        let is_due = now >= self.told.load(Ordering::SeqCst).saturating_add(gap);
+        if is_due {
+            self.told.store(now, Ordering::SeqCst);
         }
-        looks >= most
+        is_due
     }
 
     /// Another part of the journal was closed, with so many entries.
@@ -117,11 +118,6 @@ impl Counters {
 }
 
 impl House {
-    /// Whether it is asked to end.
-    pub(crate) fn is_asked(&self) -> bool {
-        self.asked.load(Ordering::SeqCst)
-    }
-
     /// Why the server ends.
     pub(crate) fn ending<R: Wait>(&self, rt: &R) -> Ending {
         self.end.get(rt).unwrap_or(Ending::Asked)
@@ -132,9 +128,35 @@ impl House {
         self.end.get(rt).is_some()
     }
 
+    /// The server ends for this reason, if it does not for another: all that wait wake.
+    pub(crate) fn end_by<R: Wait>(&self, rt: &R, ending: Ending) {
+        self.end.set(rt, ending);
+        self.rouse();
+        for station in &self.stations {
+            station.entrance.wake();
+        }
+    }
+
+    /// The threads that run nodes or watch the server wake, and those in which nodes tick.
+    fn rouse(&self) {
+        self.stop.signal.ring();
+        for station in &self.stations {
+            station.rouse();
+        }
+    }
+
+    /// A node may be served: the threads that wait for that wake.
+    pub(crate) fn tell_nodes(&self) {
+        for station in &self.stations {
+            station.news.ring();
+        }
+    }
+
     /// A step was taken: it counts in the part of the journal, and the packets that it sent are handed in to all nodes.
     pub(crate) fn ring<R: Wait>(&self, rt: &R, slip: &Slip) {
-        self.pace.note(slip.number());
+        if self.pace.note(slip.number()) {
+            self.stop.signal.ring();
+        }
         let sent = slip.outputs().packets.len() as u64;
         if sent == 0 {
             return;
@@ -147,13 +169,13 @@ impl House {
     }
 
     /// A packet has come to the node of a station: who ticks there is woken if something is due behind it, and who waits for it with rounds.
-    pub(crate) fn pass<R: Wait>(&self, rt: &R, at: &Station, number: u64) {
+    pub(crate) fn pass(&self, at: &Station, number: u64) {
         if at.bell.awaits(number) {
-            at.bell.ring(rt);
+            at.bell.ring();
         }
         for station in &self.stations {
             if station.rounds.awaits(number) {
-                station.bell.ring(rt);
+                station.bell.ring();
             }
         }
     }
@@ -165,7 +187,7 @@ impl House {
         let behind = self.stations.iter().skip(first);
         for station in behind.chain(self.stations.iter().take(first)) {
             if station.site.lock(rt).is_up(target) {
-                station.bell.call(rt, number);
+                station.bell.call(number);
                 return;
             }
         }
@@ -245,7 +267,7 @@ impl House {
     pub(crate) fn count_end<R: Wait>(&self, rt: &R) {
         let ended = self.counters.count_end();
         if self.config.stop_after > 0 && ended >= self.config.stop_after {
-            self.end.set(rt, Ending::Asked);
+            self.end_by(rt, Ending::Asked);
         }
     }
 
@@ -270,6 +292,7 @@ impl House {
     /// The threads of its nodes rest, once they are through with what they do.
     pub(crate) fn rest(&self) {
         self.pace.rest();
+        self.rouse();
     }
 
     /// If the part of the journal has come so far, deliveries are waited for, and then the threads of the nodes rest.
@@ -309,7 +332,7 @@ impl House {
     /// The server ends, if it did not yet, and so do the sessions that are left if it ended between two parts: what waits on them goes out for a moment, and
     /// then they are cut.
     pub(crate) fn end_all<R: Wait + Clock>(&self, rt: &R) {
-        self.end.set(rt, Ending::Asked);
+        self.end_by(rt, Ending::Asked);
         if self
             .stations
             .iter()

@@ -11,6 +11,7 @@ mod carrying;
 mod clock;
 mod connection;
 mod ending;
+mod entrance;
 mod gate;
 mod hearing;
 mod house;
@@ -29,18 +30,22 @@ mod seat_pool;
 mod serving;
 mod shared;
 mod shift;
+mod signal;
 mod site;
 mod spread;
 mod starting;
 mod station;
+mod stop;
 mod ticking;
 mod trouble;
 mod working;
 
 pub use ending::Ending;
+pub use entrance::Entrance;
 pub use log::{Stamp, stamp_now};
 pub use mc_types::LAST_INCARNATION;
 pub use node_workers::{
     Defaults, Life, Loaded, MOST_SEATS, Node, StartFault, begin_nodes, load_nodes,
 };
 pub use serving::{Beginning, Doors, Served, Settings, serve};
+pub use stop::Stop;

@@ -6,6 +6,7 @@ use crate::notice::{Notice, Reason};
 use crate::starting::{Arrival, start_reader, start_writer};
 use crate::station::Station;
 use std::alloc::AllocError;
+use std::io::ErrorKind;
 use std::net::{SocketAddr, TcpStream};
 use std::rt::Clock;
 use std::sync::{Arc, Wait};
@@ -16,7 +17,7 @@ use std::{io, thread};
 /// How many sessions a node has at most.
 const MOST_SESSIONS: u32 = 99;
 
-/// How long the thread that listens sleeps if nobody connects, in milliseconds.
+/// How long the thread that listens waits if a connection can't be taken, as since too many files are open, in milliseconds.
 const PAUSE: u64 = 20;
 
 /// Lets ESMEs connect to a node, until the server ends.
@@ -30,7 +31,7 @@ pub(crate) fn listen_on<'o, O, R: Threads + Wait + Eprint + Clock + Sync>(
         if house.is_over(rt) {
             return;
         }
-        match station.listener.accept() {
+        match station.entrance.let_in() {
             Ok((stream, address)) => {
                 if let Some(arrival) = admitted(rt, house, station, stream, address)
                     && start(rt, outer, house, &arrival).is_err()
@@ -39,8 +40,15 @@ pub(crate) fn listen_on<'o, O, R: Threads + Wait + Eprint + Clock + Sync>(
                     arrival.connection.lose(rt, Reason::NoThread);
                 }
             }
-            Err(_) => thread::sleep(rt, Duration::from_millis(PAUSE)),
+            Err(error) => wait_for_more(rt, station, &error),
         }
+    }
+}
+
+/// Waits until somebody connects, or the server ends, if nobody had, as this error tells; else for a moment.
+fn wait_for_more<R: Wait + Clock>(rt: &R, station: &Station, error: &io::Error) {
+    if error.kind() != ErrorKind::WouldBlock || station.entrance.sleep(rt).is_err() {
+        thread::sleep(rt, Duration::from_millis(PAUSE));
     }
 }
 
@@ -63,12 +71,7 @@ fn admitted<R: Wait + Eprint + Clock>(
     stream: TcpStream,
     address: SocketAddr,
 ) -> Option<Arrival> {
-    let wire = Wire {
-        stream,
-        address,
-        idle_seconds: house.own.idle_seconds,
-        write_seconds: house.own.write_seconds,
-    };
+    let wire = Wire::of(stream, address, &house.own);
     let Ok(Some(arrival)) = placed(rt, house, station, wire) else {
         let node = station.node.number();
         house.log.line(
@@ -77,6 +80,7 @@ fn admitted<R: Wait + Eprint + Clock>(
         );
         return None;
     };
+    station.news.ring();
     house.tell(rt, station.node, arrival.number, Notice::Connected(address));
     Some(arrival)
 }

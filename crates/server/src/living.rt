@@ -16,17 +16,13 @@ use std::sync::Wait;
 use std::sync::atomic::Ordering;
 use std::thread;
 use std::thread::{Scope, Threads};
-use std::time::Duration;
 
-/// How often it is looked, 50 milliseconds apart, whether all sessions of a node have ended, before they are cut, or whether a node that found no memory for its
-/// start anew is to wait no more: for a second.
-const LOOKS: u32 = 20;
+/// For how long it is waited that all sessions of a node end, before they are cut, and for how long by a node that found no memory for its start anew, in
+/// milliseconds.
+const PATIENCE: u64 = 1_000;
 
-/// How long it is slept between two of these looks, in milliseconds.
-const LOOK: u64 = 50;
-
-/// How often it is looked whether somebody connected, in milliseconds.
-const PAUSE: u64 = 10;
+/// How long behind the last time it is looked at the latest whether somebody connected, in milliseconds: so a connection for which there was no memory is served.
+const LOOK_GAP: u64 = 1_000;
 
 /// Runs a node in one life after another, until the part of the journal is over or the server ends.
 pub(crate) fn live_on<
@@ -102,7 +98,7 @@ fn attend_all<
         if shift.station.has_begun.load(Ordering::SeqCst) {
             start_attendants(shift, scope);
         }
-        thread::sleep(shift.rt, Duration::from_millis(PAUSE));
+        shift.station.news.wait(shift.rt, LOOK_GAP);
     }
 }
 
@@ -126,7 +122,7 @@ fn start_attendants<
 >(shift: &Shift<'s, S, L, R>, scope: &'s Scope<'s, E>) {
     let unattended = shift.station.site.lock(shift.rt).unattended();
     let Ok(arrivals) = unattended else {
-        shift.shared.house.end.set(shift.rt, Ending::Threads);
+        shift.shared.house.end_by(shift.rt, Ending::Threads);
         return;
     };
     for arrival in arrivals {
@@ -149,13 +145,11 @@ fn end_life<S: StableStore, L: Begins, R: Wait + Eprint + Clock>(shift: &Shift<'
 }
 
 fn end_sessions<S: StableStore, L: Begins, R: Wait + Eprint + Clock>(shift: &Shift<'_, S, L, R>) {
-    shift.station.site.lock(shift.rt).stop_reading();
-    for _ in 0..LOOKS {
-        if shift.station.site.lock(shift.rt).is_empty() {
-            break;
-        }
-        thread::sleep(shift.rt, Duration::from_millis(LOOK));
-    }
+    let station = shift.station;
+    station.site.lock(shift.rt).stop_reading();
+    let _ = station
+        .news
+        .wait_until(shift.rt, PATIENCE, &|| station.site.lock(shift.rt).is_empty());
     shift
         .station
         .site
@@ -191,7 +185,7 @@ fn next_life<S: StableStore, L: Begins, R: Wait + Eprint + Clock>(
             Started::Refused => return None,
         };
         shared.house.want();
-        if !waits(rt, &shared.house) {
+        if !waits(rt, &shared.house, station) {
             break;
         }
     }
@@ -216,14 +210,12 @@ fn tell_anew<R: Wait + Eprint + Clock>(rt: &R, house: &House, station: &Station)
 }
 
 /// Waits for a second; whether the server and the part of the journal still go on.
-fn waits<R: Wait + Clock>(rt: &R, house: &House) -> bool {
-    for _ in 0..LOOKS {
-        if house.pace.rests() || house.is_over(rt) {
-            return false;
-        }
-        thread::sleep(rt, Duration::from_millis(LOOK));
-    }
-    true
+fn waits<R: Wait + Clock>(rt: &R, house: &House, station: &Station) -> bool {
+    !station.news.wait_until(
+        rt,
+        PATIENCE,
+        &|| house.pace.rests() || house.is_over(rt),
+    )
 }
 
 /// Starts a node anew.
@@ -272,6 +264,7 @@ fn begin_anew<S: StableStore, L: Begins, R: Wait + Eprint + Clock>(
     );
     let mut site = station.site.lock(rt);
     site.lanes.clear();
+    site.has_many();
     if let Ok(id) = MsgId::make(station.node, incarnation, 1) {
         site.refuse_waiting(rt, id);
     }
@@ -287,8 +280,8 @@ fn begin_anew<S: StableStore, L: Begins, R: Wait + Eprint + Clock>(
 fn refuse_anew<R: Wait>(rt: &R, house: &House, station: &Station, refusal: Refusal) {
     match refusal {
         Refusal::Full if house.pace.goes_on() => house.rest(),
-        Refusal::Full => house.end.set(rt, Ending::Full),
-        Refusal::Spent => house.end.set(rt, Ending::Spent(station.node)),
-        _ => house.end.set(rt, Ending::Lost(station.node)),
+        Refusal::Full => house.end_by(rt, Ending::Full),
+        Refusal::Spent => house.end_by(rt, Ending::Spent(station.node)),
+        _ => house.end_by(rt, Ending::Lost(station.node)),
     }
 }

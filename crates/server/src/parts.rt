@@ -5,7 +5,7 @@ ghost use Rattle.node_workers.specs.Closing.{IsClosed};
 ghost use Rattle.node_workers.specs.GoingOn.{AreSound, GoesOn};
 ghost use Rattle.node_workers.specs.Histories.{ClosesParts};
 
-use crate::clock::milliseconds;
+use crate::clock::{Mark, milliseconds, milliseconds_since};
 use crate::ending::Ending;
 use crate::house::House;
 use crate::seat_pool::SeatPool;
@@ -20,7 +20,6 @@ use std::sync::ledger::Blank;
 use std::sync::{Arc, Wait};
 use std::thread;
 use std::thread::Threads;
-use std::time::Duration;
 
 /// With what another part begins: a ledger of slips, and the journal of the last part.
 #[derive(Drop)]
@@ -98,7 +97,7 @@ fn next_part<
         }
         Err(journal) => {
             drop(journal);
-            house.end.set(rt, Ending::NoPart);
+            house.end_by(rt, Ending::NoPart);
             None
         }
     }
@@ -114,7 +113,7 @@ fn part<
 {
     let seats = SeatPool::none(house.alloc);
     let Ok(theirs) = Arc::try_clone(house) else {
-        house.end.set(rt, Ending::NoPart);
+        house.end_by(rt, Ending::NoPart);
         return closed(cluster, seats.into_seats());
     };
     let shared = Shared {
@@ -155,36 +154,42 @@ fn run<
     });
 }
 
-/// How often it is looked whether the part is over, or the server ends, in milliseconds.
+/// How often it is looked whether the last deliveries of a part are through, in milliseconds.
 const LOOK: u64 = 10;
 
-/// After how many looks the operator is told counts: a minute.
-const LOOKS: u64 = 6_000;
+/// How long behind each other the operator is told of want of memory, in milliseconds.
+const WANT_GAP: u64 = 1_000;
 
-/// After how many looks the operator is told of want of memory: a second.
-const WANT_LOOKS: u32 = 100;
+/// How long behind each other the operator is told counts, in milliseconds.
+const COUNTS_GAP: u64 = 60_000;
 
 /// Waits for the end of the part, or of the server, and tells counts each minute, and want of memory each second.
 fn watch<S: StableStore, L: Begins, R: Wait + Eprint + Clock>(rt: &R, shared: &Shared<S, L>) {
     let house = &shared.house;
-    let mut looks = 0u32;
+    let mut told = Mark::now(rt);
     for _ in rt.forever() {
-        if house.is_asked() {
-            house.end.set(rt, Ending::Asked);
+        if house.stop.is_asked() {
+            house.end_by(rt, Ending::Asked);
         }
         house.keep_pace(rt);
         if house.pace.rests() || house.is_over(rt) {
             break;
         }
-        thread::sleep(rt, Duration::from_millis(LOOK));
-        looks = looks.saturating_add(1) % WANT_LOOKS;
-        if looks == 0 {
-            house.tell_wants(rt);
-        }
-        if house.counters.look(LOOKS) {
-            house.tell_counts(rt);
+        let most = if house.pace.holds() { LOOK } else { WANT_GAP };
+        house.stop.signal.wait(rt, most);
+        if told.is_past(rt, WANT_GAP) {
+            told = Mark::now(rt);
+            tell(rt, house);
         }
     }
     house.tell_wants(rt);
     house.pace.stand_since(milliseconds(rt));
+}
+
+/// Tells want of memory, and counts, if they were told a minute ago.
+fn tell<R: Wait + Eprint + Clock>(rt: &R, house: &House) {
+    house.tell_wants(rt);
+    if house.counters.are_due(milliseconds_since(rt, &house.begun), COUNTS_GAP) {
+        house.tell_counts(rt);
+    }
 }

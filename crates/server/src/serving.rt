@@ -8,14 +8,17 @@ ghost use Rattle.node_workers.specs.Histories.{ClosesKept, ClosesParts};
 use crate::bell::Bell;
 use crate::clock::{milliseconds, now};
 use crate::ending::{End, Ending};
+use crate::entrance::Entrance;
 use crate::house::{Counters, House};
 use crate::log::Log;
 use crate::pace::Pace;
 use crate::parts::serve_parts;
 use crate::rounds::Rounds;
+use crate::signal::Signal;
 use crate::site::Site;
 use crate::starting::{start_listeners, start_log};
 use crate::station::{Anew, Station};
+use crate::stop::Stop;
 use config::{Config, Own};
 use connection_parts::Timepiece;
 use crossbeam_channel::unbounded;
@@ -24,7 +27,6 @@ use node_workers::{Begins, Cluster, Journal, Life, Node, all_parts_are_one};
 use stable_store::StableStore;
 use std::alloc::{AllocError, Global};
 use std::collections::VecDeque;
-use std::net::TcpListener;
 use std::rt::Clock;
 use std::sync::atomic::{AtomicBool, AtomicU64};
 use std::sync::ledger::Blank;
@@ -42,14 +44,14 @@ pub struct Settings {
     pub own: Own,
     /// Whether it tells nothing but what must be told.
     pub is_quiet: bool,
-    /// Whether it is asked to end: who sets it ends it.
-    pub asked: Arc<AtomicBool>,
+    /// What it is asked to end by.
+    pub stop: Arc<Stop>,
 }
 
 /// Where its nodes listen, that of node 1 first, and their lives.
 #[derive(Drop)]
 pub struct Doors {
-    pub listeners: Vec<TcpListener>,
+    pub entrances: Vec<Entrance>,
     pub lives: Vec<Life>,
 }
 
@@ -110,21 +112,21 @@ fn house_of<R: Clock>(
     ensures config { IfOk result (λ house. house.config ≡ settings.config) }
     ensures limits { IfOk result (λ house. house.own ≡ settings.own) }
 {
-    let Doors { listeners, lives } = doors;
+    let Doors { entrances, lives } = doors;
     let Settings {
         config,
         own,
         is_quiet,
-        asked,
+        stop,
     } = settings;
     Ok(House {
         alloc,
         config,
         own,
-        stations: stations_of(rt, alloc, listeners, lives)?,
+        stations: stations_of(rt, alloc, entrances, lives)?,
         log: Log::make(alloc, is_quiet),
         end: End::none(),
-        asked,
+        stop,
         counters: Counters::none(),
         pace: Pace::of(own),
         begun: Instant::now(rt).ok(),
@@ -160,23 +162,21 @@ fn serve_over<
 fn stations_of<R: Clock>(
     rt: &R,
     alloc: Global,
-    listeners: Vec<TcpListener>,
+    entrances: Vec<Entrance>,
     lives: Vec<Life>,
 ) -> Result<Vec<Station>, AllocError> {
-    let mut stations = Vec::with_capacity(alloc, listeners.len())?;
-    let mut listeners = VecDeque::from_vec(listeners);
+    let mut stations = Vec::with_capacity(alloc, entrances.len())?;
+    let mut entrances = VecDeque::from_vec(entrances);
     let mut lives = VecDeque::from_vec(lives);
-    while let Some(listener) = listeners.pop_front() {
+    while let Some(entrance) = entrances.pop_front() {
         let Ok(node) = NodeNo::make(number_of(stations.len())) else {
-            drop(listener);
+            drop(entrance);
             break;
         };
-        let _ = listener.set_nonblocking(true);
         let (wakes, woken) = unbounded(alloc)?;
-        let bell = Bell::silent(alloc)?;
         stations.push(Station {
             node,
-            listener,
+            entrance,
             site: Mutex::new(Site::none(alloc, now(rt))),
             wakes,
             woken,
@@ -185,7 +185,8 @@ fn stations_of<R: Clock>(
             has_ticked: AtomicBool::new(false),
             has_begun: AtomicBool::new(false),
             rounds: Rounds::none(),
-            bell,
+            bell: Bell::silent(),
+            news: Signal::silent(),
             is_anew: AtomicBool::new(false),
             serials: AtomicU64::new(0),
             life: Mutex::new(lives.pop_front()),

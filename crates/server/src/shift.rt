@@ -55,8 +55,8 @@ impl<S: StableStore, L: Begins, R: Wait + Eprint + Clock> Shift<'_, S, L, R> {
     pub(crate) fn meet(&self, trouble: Trouble) {
         match trouble {
             Trouble::Full if self.shared.house.pace.goes_on() => self.shared.house.rest(),
-            Trouble::Full => self.shared.house.end.set(self.rt, Ending::Full),
-            Trouble::Store => self.station.anew.fail(),
+            Trouble::Full => self.shared.house.end_by(self.rt, Ending::Full),
+            Trouble::Store => self.station.fail(),
             Trouble::Memory => self.shared.house.want(),
             Trouble::Nothing => {}
         }

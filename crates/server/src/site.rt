@@ -1,6 +1,6 @@
 //! What stands at a node of a server: the service of its ESMEs, and their connections.
 
-ghost use Rattle.std.specs.Prelude.{◌≡◌};
+ghost use Rattle.std.specs.Prelude.{◌≡◌, max};
 
 use crate::backlog::{Backlog, Naming};
 use crate::berth::Berth;
@@ -27,6 +27,9 @@ use waiting_requests::{Answer, Reply};
 /// How long a node with few message_ids left waits for a quiet moment in which to start anew, in milliseconds.
 const PATIENCE: u64 = 30_000;
 
+/// For how long it begins no attempts, so that it comes to rest, in milliseconds.
+const HOLD: u64 = 2_000;
+
 /// How many deliver_sm go out for an account one after another at most: more than all windows of a node have places.
 const MOST_PUSHED: usize = 1_000;
 
@@ -46,6 +49,8 @@ pub(crate) struct Site {
     clock: Moment,
     // Since when the node has few message_ids left, if it has.
     low: Option<Mark>,
+    // Whether it begins no attempts, so that it comes to rest before it starts anew.
+    is_held: bool,
     pub(crate) tally: Tally,
 }
 
@@ -63,6 +68,7 @@ impl Site {
             fed: None,
             clock,
             low: None,
+            is_held: false,
             tally: Tally::zero(),
         }
     }
@@ -128,7 +134,9 @@ impl Site {
     }
 
     /// A tick came at this moment.
-    pub(crate) fn pass(&mut self, moment: Moment) {
+    pub(crate) fn pass(&mut self, moment: Moment)
+        ensures { self.new.clock ≡ max self.old.clock moment }
+    {
         if moment.seconds() > self.clock.seconds() {
             self.clock = moment;
         }
@@ -315,6 +323,9 @@ impl Site {
 
     /// Of how many more messages of an account an attempt may begin.
     fn wanted(&self, account: &SystemId) -> usize {
+        if self.is_held {
+            return 0;
+        }
         let mut places = 0usize;
         let mut taken = self.lanes.count(account);
         for (_, session) in self.service.sessions() {
@@ -606,18 +617,26 @@ impl Site {
         self.carries_some() || self.waiting() > 0 || !self.lanes.is_empty()
     }
 
-    /// The node has few message_ids left, or not; whether it has had for so long that it waits for no quiet moment any more.
-    pub(crate) fn has_few<R: Clock>(&mut self, rt: &R, is_low: bool) -> bool {
-        if !is_low {
-            self.low = None;
-            return false;
-        }
+    /// The node has few message_ids left, so for a moment it begins no attempts; whether it has had for so long that it waits for no quiet moment any more.
+    pub(crate) fn has_few<R: Clock>(&mut self, rt: &R) -> bool {
         let since = match self.low {
             Some(since) => since,
             None => Mark::now(rt),
         };
         self.low = Some(since);
+        self.is_held = !since.is_past(rt, HOLD);
         since.is_past(rt, PATIENCE)
+    }
+
+    /// Whether the node begins no attempts, so that it comes to rest.
+    pub(crate) fn is_held(&self) -> bool {
+        self.is_held
+    }
+
+    /// The node started anew, so it has many message_ids.
+    pub(crate) fn has_many(&mut self) {
+        self.low = None;
+        self.is_held = false;
     }
 
     /// How many requests wait for the node's answer.

@@ -31,7 +31,7 @@ pub(crate) fn start_log<'o, O, R: Threads + Wait + Eprint + Clock + Sync>(
 ) {
     match outer.spawn(move || house.log.write_all(rt)) {
         Ok(_) => {}
-        Err(_) => house.end.set(rt, Ending::Threads),
+        Err(_) => house.end_by(rt, Ending::Threads),
     }
 }
 
@@ -55,7 +55,7 @@ fn start_listener<'o, O, R: Threads + Wait + Eprint + Clock + Sync>(
 ) {
     match outer.spawn(move || listen_on(rt, outer, house, station)) {
         Ok(_) => {}
-        Err(_) => house.end.set(rt, Ending::Threads),
+        Err(_) => house.end_by(rt, Ending::Threads),
     }
 }
 
@@ -111,7 +111,7 @@ fn start_node<
 >(rt: &'s R, scope: &'s Scope<'s, E>, shared: &'s Shared<S, L>, station: &'s Station) {
     match scope.spawn(move || live_on(rt, shared, station)) {
         Ok(_) => {}
-        Err(_) => shared.house.end.set(rt, Ending::Threads),
+        Err(_) => shared.house.end_by(rt, Ending::Threads),
     }
 }
 
@@ -132,7 +132,7 @@ pub(crate) fn start_ticks<
         life,
     })) {
         Ok(_) => {}
-        Err(_) => shift.shared.house.end.set(shift.rt, Ending::Threads),
+        Err(_) => shift.shared.house.end_by(shift.rt, Ending::Threads),
     }
 }
 
@@ -153,7 +153,7 @@ pub(crate) fn start_packets<
         life,
     })) {
         Ok(_) => {}
-        Err(_) => shift.shared.house.end.set(shift.rt, Ending::Threads),
+        Err(_) => shift.shared.house.end_by(shift.rt, Ending::Threads),
     }
 }
 

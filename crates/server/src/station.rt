@@ -1,12 +1,13 @@
 //! A node of the server, as its threads share it.
 
 use crate::bell::Bell;
+use crate::entrance::Entrance;
 use crate::rounds::Rounds;
+use crate::signal::Signal;
 use crate::site::Site;
 use crossbeam_channel::{Receiver, Sender};
 use mc_types::{LAST_SERIAL, NodeNo};
 use node_workers::Life;
-use std::net::TcpListener;
 use std::sync::atomic::{AtomicBool, AtomicU64, Ordering};
 use std::sync::{Mutex, Wait};
 
@@ -24,7 +25,7 @@ pub(crate) enum Wake {
 #[derive(Drop)]
 pub(crate) struct Station {
     pub(crate) node: NodeNo,
-    pub(crate) listener: TcpListener,
+    pub(crate) entrance: Entrance,
     pub(crate) site: Mutex<Site>,
     pub(crate) wakes: Sender<Wake>,
     pub(crate) woken: Receiver<Wake>,
@@ -39,6 +40,8 @@ pub(crate) struct Station {
     pub(crate) rounds: Rounds,
     /// What wakes the thread in which it ticks.
     pub(crate) bell: Bell,
+    /// What wakes the thread that runs it: somebody connected, a session ended, a node may be served, or its life is over.
+    pub(crate) news: Signal,
     /// Whether it started anew, and is not through with its first tick.
     pub(crate) is_anew: AtomicBool,
     /// How many serials its incarnation has given.
@@ -106,6 +109,24 @@ impl Station {
         let all = u64::from(LAST_SERIAL.saturating_sub(first_serial)).saturating_add(1);
         let few = FEW_SERIALS.min(all / 2);
         self.serials.load(Ordering::SeqCst).saturating_add(few) >= all
+    }
+
+    /// Its store failed: it is to start anew.
+    pub(crate) fn fail(&self) {
+        self.anew.fail();
+        self.rouse();
+    }
+
+    /// It has few serials left, and nothing waits there: it is to start anew.
+    pub(crate) fn run_low(&self) {
+        self.anew.run_low();
+        self.rouse();
+    }
+
+    /// The thread that runs it wakes, and the one in which it ticks.
+    pub(crate) fn rouse(&self) {
+        self.news.ring();
+        self.bell.ring();
     }
 
     /// Wakes the thread that hands in its packets. If there is no memory for it, the next one that wakes it tells of these packets, too.

@@ -11,20 +11,21 @@ use stable_store::StableStore;
 use std::rt::Clock;
 use std::sync::Wait;
 use std::sync::atomic::Ordering;
-use std::thread;
-use std::time::Duration;
 
-/// In how many pieces the second between two ticks is waited for, so that the end of a life is seen soon.
-const PIECES: u32 = 50;
+/// How long a node waits between two ticks if nothing is due, in milliseconds.
+const SECOND: u64 = 1_000;
 
-/// How long a piece is, in milliseconds.
-const PIECE: u64 = 20;
+/// How long behind each other it is looked whether a node is at rest that is to start anew, in milliseconds.
+const QUIET_LOOK: u64 = 20;
 
-/// How often it is looked whether those of the nodes below have begun: for ten minutes.
-const BELOW_LOOKS: u32 = 30_000;
+/// For how long it is waited that the nodes below begin, in milliseconds: for ten minutes.
+const BELOW_PATIENCE: u64 = 600_000;
 
 /// For how long no packet comes before rounds are given up, in milliseconds.
 const MOST_SILENCE: u64 = 5_000;
+
+/// How long it is waited for a packet before it is looked whether others came, in milliseconds.
+const SILENCE: u64 = 500;
 
 /// Sees to the first tick of a life: before it the clock of a node stands at its least moment, so nobody is served before. As the server begins, it comes once
 /// those of the nodes below are through, and its own rounds are waited for, also in another part of the journal; a node that starts anew is served meanwhile.
@@ -52,6 +53,7 @@ fn begin<S: StableStore, L: Begins, R: Wait + Eprint + Clock>(shift: &Shift<'_, 
         && !shift.is_over()
         && !shift.station.has_begun.swap(true, Ordering::SeqCst)
     {
+        shift.shared.house.tell_nodes();
         shift.shared.house.tell_serving(shift.rt);
     }
 }
@@ -59,13 +61,14 @@ fn begin<S: StableStore, L: Begins, R: Wait + Eprint + Clock>(shift: &Shift<'_, 
 /// Hands in the first tick of a life, once those of the nodes below are through.
 fn tick_once<S: StableStore, L: Begins, R: Wait + Eprint + Clock>(shift: &Shift<'_, S, L, R>) {
     let Some(mut seat) = shift.seat() else {
-        shift.shared.house.end.set(shift.rt, Ending::Threads);
+        shift.shared.house.end_by(shift.rt, Ending::Threads);
         return;
     };
-    wait_until(
-        shift,
-        BELOW_LOOKS,
-        &|| shift.shared.house.have_begun(shift.node()),
+    let house = &shift.shared.house;
+    let _ = shift.station.news.wait_until(
+        shift.rt,
+        BELOW_PATIENCE,
+        &|| shift.is_over() || house.have_begun(shift.node()),
     );
     if !shift.is_over()
         && let Err(trouble) = tick(shift, &mut seat, false)
@@ -81,15 +84,14 @@ pub(crate) fn tick_on<S: StableStore, L: Begins, R: Wait + Eprint + Clock>(
     shift: &Shift<'_, S, L, R>,
 ) {
     let Some(mut seat) = shift.seat() else {
-        shift.shared.house.end.set(shift.rt, Ending::Threads);
+        shift.shared.house.end_by(shift.rt, Ending::Threads);
         return;
     };
     let mut beat = Beat::begin(shift.rt);
     for _ in shift.rt.forever() {
         wait_for_rounds(shift);
         beat.pass(shift.rt);
-        let is_at_once = wait_for_turn(shift, &beat);
-        start_anew_if_low(shift, is_at_once);
+        wait_for_turn(shift, &beat);
         if shift.is_over() {
             break;
         }
@@ -102,52 +104,50 @@ pub(crate) fn tick_on<S: StableStore, L: Begins, R: Wait + Eprint + Clock>(
     shift.give_back(seat);
 }
 
-/// Waits until the node is to tick: at once if something is due, and the last tick is long enough ago, else for a second, or until the life is over. Whether it is
-/// at once.
+/// Waits until the node is to tick: at once if something is due, and the last tick is long enough ago, else for a second, or until the life is over.
 fn wait_for_turn<S: StableStore, L: Begins, R: Wait + Eprint + Clock>(
     shift: &Shift<'_, S, L, R>,
     beat: &Beat,
-) -> bool {
+) {
     let station = shift.station;
-    let mut pieces = 0u32;
+    let begun = Mark::now(shift.rt);
     for _ in shift.rt.forever() {
-        if shift.is_over() || pieces >= PIECES {
+        let is_held = start_anew_if_low(shift);
+        let left = begun.left(shift.rt, SECOND);
+        if shift.is_over() || left == 0 {
             break;
         }
         let is_due = station.bell.is_due(station.next.load(Ordering::SeqCst));
-        let left = if is_due { beat.left(shift.rt) } else { PIECE };
-        if left == 0 {
-            return true;
+        let gap = match (is_held, is_due) {
+            (true, _) => QUIET_LOOK,
+            (false, true) => beat.left(shift.rt),
+            (false, false) => left,
+        };
+        if gap == 0 {
+            break;
         }
-        if !station
-            .bell
-            .wait(shift.rt, Duration::from_millis(left.min(PIECE)))
-        {
-            pieces = pieces.saturating_add(1);
-        }
+        station.bell.wait(shift.rt, gap.min(left));
     }
-    false
 }
 
 /// Has a node start anew that has few message_ids left, once nothing waits there and all packets have come, or after thirty seconds: a receipt whose round runs
-/// then may be lost. It is asked a second behind the rounds of a tick, when the attempts that these began have been made, or else as it is about to tick at once.
+/// then may be lost. So that it comes to rest it begins no attempts for two seconds; whether it begins none now.
 fn start_anew_if_low<S: StableStore, L: Begins, R: Wait + Eprint + Clock>(
     shift: &Shift<'_, S, L, R>,
-    is_at_once: bool,
-) {
-    let is_low = shift.has_few_serials();
+) -> bool {
+    if !shift.has_few_serials() || shift.is_over() {
+        return false;
+    }
     let mut site = shift.station.site.lock(shift.rt);
-    let waits_no_more = site.has_few(shift.rt, is_low);
-    let is_busy = is_at_once || site.is_busy();
+    let waits_no_more = site.has_few(shift.rt);
+    let is_busy = site.is_busy();
+    let is_held = site.is_held();
     drop(site);
-    if !is_low || shift.is_over() {
-        return;
-    }
     let house = &shift.shared.house;
-    let is_through = house.have_come(house.newest());
-    if (!is_busy && is_through) || waits_no_more {
-        shift.station.anew.run_low();
+    if (!is_busy && house.have_come(house.newest())) || waits_no_more {
+        shift.station.run_low();
     }
+    is_held
 }
 
 /// Waits until the rounds are through that the last tick began, as long as packets come. If the life is over before, they are waited for in the next part.
@@ -156,9 +156,9 @@ fn wait_for_rounds<S: StableStore, L: Begins, R: Wait + Eprint + Clock>(
 ) {
     let house = &shift.shared.house;
     let station = shift.station;
-    let mut looks = 0u32;
+    let mut told = Mark::now(shift.rt);
     let mut come = house.come();
-    let mut silent = Mark::now(shift.rt);
+    let mut silent = told;
     for _ in shift.rt.forever() {
         let Some(awaited) = station.rounds.awaited() else {
             break;
@@ -171,9 +171,8 @@ fn wait_for_rounds<S: StableStore, L: Begins, R: Wait + Eprint + Clock>(
             silent = Mark::now(shift.rt);
             continue;
         }
-        if !station.bell.wait(shift.rt, Duration::from_millis(PIECE)) {
-            looks = tell_progress(shift, looks);
-        }
+        station.bell.wait(shift.rt, SILENCE);
+        told = tell_progress(shift, told);
         let now = house.come();
         if now != come {
             come = now;
@@ -187,17 +186,19 @@ fn wait_for_rounds<S: StableStore, L: Begins, R: Wait + Eprint + Clock>(
     }
 }
 
-/// How often it is looked whether packets come before an operator is told how many have: for five seconds.
-const TOLD_LOOKS: u32 = 250;
+/// How long behind each other an operator is told how many packets have come, in milliseconds.
+const TOLD_GAP: u64 = 5_000;
 
-/// It was looked so often whether the rounds of a node are through: each five seconds an operator is told how far they are, if it is not served before that.
-/// How often it was looked then.
+/// The rounds of a node are not through: each five seconds an operator is told how far they are, if it is not served before that. When that was told last, if it
+/// was told so far then.
 fn tell_progress<S: StableStore, L: Begins, R: Wait + Eprint + Clock>(
     shift: &Shift<'_, S, L, R>,
-    looks: u32,
-) -> u32 {
-    let looks = looks.saturating_add(1);
-    if looks % TOLD_LOOKS == 0 && !shift.station.has_begun.load(Ordering::SeqCst) {
+    told: Mark,
+) -> Mark {
+    if !told.is_past(shift.rt, TOLD_GAP) {
+        return told;
+    }
+    if !shift.station.has_begun.load(Ordering::SeqCst) {
         let house = &shift.shared.house;
         let node = shift.node().number();
         let come = house.first_left().saturating_sub(1);
@@ -207,23 +208,7 @@ fn tell_progress<S: StableStore, L: Begins, R: Wait + Eprint + Clock>(
             format_args!("node {node}: not served yet: {come} of {sent} packets have come"),
         );
     }
-    looks
-}
-
-/// Waits until this is so, or the life is over, or so many looks were made.
-fn wait_until<S: StableStore, L: Begins, R: Wait + Eprint + Clock, F: Fn() -> bool>(
-    shift: &Shift<'_, S, L, R>,
-    looks: u32,
-    is_so: &F,
-)
-    requires { F.IsAlwaysCallable is_so.now }
-{
-    for _ in 0..looks {
-        if shift.is_over() || is_so() {
-            return;
-        }
-        thread::sleep(shift.rt, Duration::from_millis(PIECE));
-    }
+    Mark::now(shift.rt)
 }
 
 /// Hands in a tick: what it gives out goes out, what was pushed and waits too long is given up, and what waits for a worker is delivered. A look at all that may

@@ -111,7 +111,7 @@ fn free<S: StableStore, L: Begins, R: Wait + Eprint + Clock>(
     let is_hungry = site.is_hungry(job.pushed.number());
     drop(guard);
     if is_hungry {
-        shift.station.bell.call(shift.rt, 0);
+        shift.station.bell.call(0);
     }
     fed
 }

@@ -1,5 +1,5 @@
 use Rattle.std.proofs.Common.{length}
 use Rattle.server.proofs.serving.stations_of.Given as goal
 
-abbrev pub decreases-loop-listener : goal.decreases-loop-listener
-decreases-loop-listener g l = length l.listeners.items
+abbrev pub decreases-loop-entrance : goal.decreases-loop-entrance
+decreases-loop-entrance g l = length l.entrances.items
