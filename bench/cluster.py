@@ -11,6 +11,7 @@ seconds a run may take: a longer one, as the tenth of its messages tells, is lef
 
     python3 bench/cluster.py crates/centre/out/centre [SECONDS]
     python3 bench/cluster.py --instructions crates/centre/out/centre      # counts with Valgrind's callgrind, up to 1,000 messages: 20 minutes
+    python3 bench/cluster.py --others crates/centre/out/centre            # counts a submit_sm at node 1 beside messages of node 3: 10 minutes
 
 It runs an unproved program as well; what `rt try` builds looks for faults of memory as it runs, which takes a hundred times as long, and more memory.
 """
@@ -24,11 +25,14 @@ from instructions import instructions
 from one_node import BIND, START, processor_time
 
 SUBMIT = "0000002900000004000000000000000200010131343400010131353500000000000001000000024869"
+# The same for a day later.
+LATER = "000000390000000400000000000000020001013134340001013135350000000030303030303130303030303030303052000001000000024869"
 RECEIPT = b"stat:DELIVRD".hex().encode()
 WINDOW = 10
 SETTLES = 1_000
 RUNS = 3
 LONG = 10
+OTHERS, MORE = (0, 30_000, 90_000), 500
 
 
 def answers(first):
@@ -115,12 +119,29 @@ def counts(program, nodes):
         before = each
 
 
+def beside_others(program):
+    """A row for each number of messages of node 3, all for a day later: the instructions of another submit_sm with its settle at node 1, and at node 3."""
+    bound = ["nodes 3", f"pdu 1 1 {BIND}", f"pdu 3 1 {BIND}"]
+    ticks = [f"tick {node} {START}" for node in (1, 2, 3)]
+    for count in OTHERS:
+        lines = bound + ([f"pdu 3 1 {LATER}"] * WINDOW + ["settle"]) * (count // WINDOW) + ticks
+        whole = instructions(program, lines)
+        more = [instructions(program, lines + [f"pdu {node} 1 {LATER}", "settle"] * MORE) for node in (1, 3)]
+        yield f"{count:,}", *(f"{(one - whole) / MORE:,.0f}" for one in more)
+
+
 def main():
     reader = argparse.ArgumentParser(description=__doc__, formatter_class=argparse.RawDescriptionHelpFormatter)
     reader.add_argument("program", metavar="PROGRAM", type=os.path.abspath)
     reader.add_argument("seconds", metavar="SECONDS", type=float, nargs="?", default=300)
     reader.add_argument("--instructions", action="store_true")
+    reader.add_argument("--others", action="store_true")
     given = reader.parse_args()
+    if given.others:
+        print("| Messages of node 3 | A submit_sm with its settle at node 1 | At node 3 |\n|---|---|---|")
+        for row in beside_others(given.program):
+            print("|", " | ".join(row), "|", flush=True)
+        return
     if given.instructions:
         print("| Nodes | Messages | A message | Times a tenth | A packet that comes | A settle of nothing | With a node down |")
         print("|---|---|---|---|---|---|---|")

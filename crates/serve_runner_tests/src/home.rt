@@ -50,16 +50,14 @@ pub fn addresses<R: Abort + Net<Listener = TcpListener, Stream = TcpStream>>(rt:
     [free_address(rt), free_address(rt)]
 }
 
-/// Another address of this machine.
-const ELSEWHERE: Ipv4Addr = Ipv4Addr::new(127, 0, 0, 2);
-
-/// A server listens at these addresses, and at no other one of this machine: their ports are free there.
+/// A server listens at these addresses, and not at 127.0.0.2 of this machine: their ports are free there.
 pub fn assert_alone<R: Abort + Net<Listener = TcpListener, Stream = TcpStream>>(
     rt: &R,
     addresses: Addresses,
 ) {
+    let elsewhere = Ipv4Addr::new(127, 0, 0, 2);
     for address in addresses {
-        let other = SocketAddr::from(SocketAddrV4::new(ELSEWHERE, address.port()));
+        let other = SocketAddr::from(SocketAddrV4::new(elsewhere, address.port()));
         let listener = TcpListener::bind(rt, other).expect(rt, "a free port elsewhere");
         drop(listener);
     }
