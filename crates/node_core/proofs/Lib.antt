@@ -9,4 +9,5 @@ pub mod Stopping
 pub mod Committing
 pub mod Storing
 pub mod Restarts
+pub mod Strange
 pub mod Lists

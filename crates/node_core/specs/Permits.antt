@@ -24,6 +24,15 @@ abbrev pub unless_strange : Bool → Option StepFault → Option StepFault
 unless_strange is_own (Some fault) = Some fault
 unless_strange is_own None = if is_own then None else Some StrangeLife
 
+-- the fault of a step that stands on another life, and would have this one if it stood on the node's
+abbrev pub strange_or : StepFault → StepFault
+strange_or Memory = StrangeLife
+strange_or Broken = Broken
+strange_or (Grant refusal) = Grant refusal
+strange_or NotGranted = NotGranted
+strange_or Device = Device
+strange_or StrangeLife = StrangeLife
+
 abbrev pub fault_under : {S : Type 0} → Standing S → Life → Input → Option StepFault
 fault_under node life input = unless_strange (is_life_of node life) (fault_in node input)
 

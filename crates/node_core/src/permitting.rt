@@ -2,13 +2,13 @@
 
 ghost use Rattle.std.specs.Prelude.{◌≡◌, ◌↔◌, false, true, None, Some, IfErr, IfOk, IsErrOf, IsSome, OnErr, OnOk};
 ghost use Rattle.delivery.specs.declared.outcome.Outcome.{Outcome as OutcomeValue};
-ghost use Rattle.node_kept.specs.StepFault.TheVariants.{Memory};
+ghost use Rattle.node_kept.specs.StepFault.TheVariants.{Memory, StrangeLife};
 ghost use Rattle.node_kept.specs.Input.TheVariants as given;
 ghost use Rattle.node_model.specs.Granted.{known_slot};
 ghost use Rattle.node_kept.specs.Keeping.{kept_of};
 ghost use Rattle.node_kept.specs.Steps.{IsFault, outputs_of};
 ghost use Rattle.node_core.specs.Nodes.{HasTaken, IsAwaited, fault_in};
-ghost use Rattle.node_core.specs.Permits.{HasTakenUnder, IsAnswered, IsGrant, IsHandedBack, fault_under, is_life_of};
+ghost use Rattle.node_core.specs.Permits.{HasTakenUnder, IsAnswered, IsGrant, IsHandedBack, fault_under, is_life_of, strange_or};
 
 use crate::life::Life;
 use crate::node::Node;
@@ -102,10 +102,26 @@ impl<S: StableStore> Node<S> {
         ensures allowed { OnOk result (fault_under self.now life.now input ≡ None) }
         ensures faults { IfErr result (IsFault (fault_under self.now life.now input)) }
     {
-        match self.prepare_step(input) {
-            Ok(_) | Err(StepFault::Memory) if !self.is_life(life) => Err(StepFault::StrangeLife),
-            prepared => prepared,
+        let prepared = self.prepare_step(input);
+        if self.is_life(life) {
+            return prepared;
         }
+        Err(strange(prepared))
+    }
+}
+
+/// Why a step is not taken that stands on another life of the node, of which this was prepared: that goes.
+fn strange(prepared: Result<Pending, StepFault>) -> StepFault
+    ensures ok { IfOk prepared (λ pending. result ≡ StrangeLife) }
+    ensures err { IfErr prepared (λ fault. result ≡ strange_or fault) }
+{
+    match prepared {
+        Ok(pending) => {
+            drop(pending);
+            StepFault::StrangeLife
+        }
+        Err(StepFault::Memory) => StepFault::StrangeLife,
+        Err(fault) => fault,
     }
 }
 

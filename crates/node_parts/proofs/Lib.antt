@@ -13,6 +13,7 @@ pub mod Naming
 pub mod Sleeping
 pub mod Listings
 pub mod Waking
+pub mod Rolled
 pub mod Looking
 pub mod Dozing
 pub mod Dropping

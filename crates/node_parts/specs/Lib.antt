@@ -10,6 +10,7 @@ pub mod Renewal
 pub mod Told
 pub mod Turning
 pub mod Rising
+pub mod Rolling
 pub mod Reaching
 pub mod Sleeping
 pub mod Living

@@ -1,5 +1,5 @@
 -- What a tick is told of sessions and of messages, as the node's own types have it.
-use Rattle.std.specs.Prelude.{◌≡◌, ℕ, Bool, true, false, ◌==◌, List, []}
+use Rattle.std.specs.Prelude.{◌≡◌, ℕ, Bool, true, false, List, []}
 use Rattle.node_parts.specs.Rising.{has_id}
 use Rattle.mc_model.specs.node.Reach.{Reach}
 use Rattle.delivery.specs.Targets.{is_up}

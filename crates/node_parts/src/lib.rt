@@ -19,6 +19,7 @@ mod noted;
 mod outputs;
 mod reach;
 mod renewal;
+mod roll;
 mod ruling;
 mod sleepers;
 mod turn;

@@ -1,10 +1,12 @@
 //! Room that was taken to list messages.
 
-ghost use Rattle.std.specs.Prelude.{◌≡◌, ◌≤◌, ◌+◌, ◌-◌, ◌⊎◌, ◌<◌, IfOk, OnErr, max};
+ghost use Rattle.std.specs.Prelude.{◌≡◌, ◌≤◌, ◌+◌, ◌-◌, ◌⊎◌, ◌<◌, [], length, IfOk, OnErr, max};
 ghost use Rattle.std.specs.Vec.{vec_capacity};
+ghost use Rattle.shelf.specs.Parted.{IsNumberOfParts, all_in, wide_in};
 
 use crate::listing::Listing;
 use mc_types::MsgId;
+use shelf::{Parts, parts_of};
 use std::alloc::{AllocError, Global};
 use std::marker::Model;
 use std::mem;
@@ -13,21 +15,28 @@ use std::mem;
 /// as the first of the two.
 #[derive(Drop)]
 pub(crate) struct ListRoom {
-    live: Vec<Listing>,
+    live: Parts<Listing>,
     awake: Vec<MsgId>,
+    // What contracts see if there is no room.
+    none: Vec<Listing>,
 }
 
 impl Model for ListRoom {
-    ghost use Rattle.std.specs.Prelude.{◌≤◌};
+    ghost use Rattle.std.specs.Prelude.{◌≡◌, ◌≤◌, [], length, slice_index_or};
     ghost use Rattle.std.specs.Global.{Vec};
     ghost use Rattle.std.specs.Vec.{vec_capacity};
+    ghost use Rattle.shelf.specs.Parted.{IsNumberOfParts, all_in, wide_in};
     ghost use Rattle.node_parts.specs.declared.listing.Listing.{Listing};
 
     ghost Value = { Vec Listing };
 
-    ghost view = { λ room. room.live };
+    ghost view = { λ room. slice_index_or room.live.items 0 room.none };
 
-    ghost invariant = { λ room. vec_capacity room.live ≤ vec_capacity room.awake };
+    ghost invariant = { λ room.
+        IsNumberOfParts (length room.live.items)
+        × ((all_in room.live.items ≡ [])
+        × ((vec_capacity (slice_index_or room.live.items 0 room.none) ≤ wide_in room.live.items)
+        × (vec_capacity (slice_index_or room.live.items 0 room.none) ≤ vec_capacity room.awake))) };
 }
 
 impl ListRoom {
@@ -57,17 +66,25 @@ impl ListRoom {
         ensures memory { OnErr result (0 < room) }
     {
         Ok(ListRoom {
-            live: Vec::with_capacity(alloc, room)?,
+            live: parts_of(alloc, room)?,
             awake: Vec::with_capacity(alloc, room)?,
+            none: Vec::new(alloc),
         })
     }
 
     /// The room on the list of those that are live, and on that of those that are awake.
-    pub fn split(self) -> (Vec<Listing>, Vec<MsgId>)
-        ensures live { result.0 ≡ self }
+    pub fn split(self) -> (Parts<Listing>, Vec<MsgId>)
+        ensures number { IsNumberOfParts (length result.0.items) }
+        ensures none { all_in result.0.items ≡ [] }
+        ensures live { vec_capacity self ≤ wide_in result.0.items }
         ensures awake { vec_capacity self ≤ vec_capacity result.1 }
     {
-        (self.live, self.awake)
+        let ListRoom {
+            live,
+            awake,
+            none: _,
+        } = self;
+        (live, awake)
     }
 }
 

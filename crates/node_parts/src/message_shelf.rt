@@ -32,6 +32,7 @@ use crate::message_room::MessageRoom;
 use crate::noted::{Noted, is_noted};
 use crate::reach::Reach;
 use crate::renewal::Renewal;
+use crate::roll::Roll;
 use crate::sleepers::doze_due;
 use fate_chain::Author;
 use mc_types::{Moment, MsgId};
@@ -52,7 +53,7 @@ use tick_rules::Standpoint;
 pub struct MessageShelf {
     shelf: Shelf<Message>,
     // Those that are live, in ascending order of their ids, with room for all that are kept.
-    live: Vec<Listing>,
+    live: Roll,
     // Those of them that are awake.
     awake: Awake,
     // For whom it is noted until when they sleep; none of them sleeps if it is noted for nobody.
@@ -71,12 +72,12 @@ impl Model for MessageShelf {
     ghost view = { λ s. record {
       entries = s.shelf.entries;
       room = s.shelf.room;
-      listings = min (vec_capacity s.live) (vec_capacity s.awake.ids) - length s.shelf.entries;
+      listings = min (s.live.width) (vec_capacity s.awake.ids) - length s.shelf.entries;
       noted = s.noted;
     } };
 
     ghost invariant = { λ s.
-        AreListed s.shelf.entries (ids_of s.live.items) (min (vec_capacity s.live) (vec_capacity s.awake.ids))
+        AreListed s.shelf.entries (ids_of s.live.items) (min (s.live.width) (vec_capacity s.awake.ids))
         × (AreNoted s.noted s.shelf.entries s.live.items × AreAwake s.awake.until s.live.items s.awake.ids.items) };
 }
 
@@ -87,7 +88,7 @@ impl MessageShelf {
     {
         MessageShelf {
             shelf: Shelf::empty(alloc),
-            live: Vec::new(alloc),
+            live: Roll::empty(alloc),
             awake: Awake {
                 ids: Vec::new(alloc),
                 until: Moment::least(),
@@ -114,7 +115,7 @@ impl MessageShelf {
     pub fn next_live(&self, from: u64) -> Option<MsgId>
         ensures { IsNextLive self.now.entries from result }
     {
-        least_from(&self.live, from)
+        self.live.least_from(from)
     }
 
     /// The clock of a tick at this standpoint, if it is noted for its author and these accounts until when messages sleep, and for attempts that may begin
@@ -148,8 +149,8 @@ impl MessageShelf {
     {
         match asleep {
             Some(clock) if *clock < self.awake.until => next_from(&self.awake.ids, from),
-            Some(clock) => due_from(&self.live, from, *clock),
-            None => least_from(&self.live, from),
+            Some(clock) => self.live.due_from(from, *clock),
+            None => self.live.least_from(from),
         }
     }
 
@@ -183,7 +184,7 @@ impl MessageShelf {
         ensures memory { OnErr result (0 < more) }
     {
         let shelf = self.shelf.room(alloc, more)?;
-        let have = self.live.capacity().min(self.awake.ids.capacity());
+        let have = self.live.width().min(self.awake.ids.capacity());
         let live = ListRoom::of(alloc, have, self.shelf.len(), more)?;
         Ok(MessageRoom { shelf, live })
     }
@@ -198,7 +199,7 @@ impl MessageShelf {
         let MessageRoom { shelf, live } = room;
         let (live, awake) = live.split();
         self.shelf.make_room(shelf);
-        widen(&mut self.live, live);
+        self.live.widen(live);
         widen(&mut self.awake.ids, awake);
     }
 
@@ -213,7 +214,7 @@ impl MessageShelf {
     {
         self.shelf.put(id.number(), message);
         self.shelf.ascends();
-        enlist(&mut self.live, id);
+        self.live.enlist(id);
         awake::put(&mut self.awake.ids, id);
     }
 
@@ -318,7 +319,7 @@ pub(crate) fn place_of(live: &[Listing], id: u64) -> Result<usize, usize>
 }
 
 /// The least of the ids that are listed, which ascend, from a number on; none if there is none.
-fn least_from(live: &[Listing], from: u64) -> Option<MsgId>
+pub(crate) fn least_from(live: &[Listing], from: u64) -> Option<MsgId>
     requires { AreRising (ids_of live.now) }
     ensures { IsLeastFrom from (λ id. In id (ids_of live.now)) result }
 {
@@ -337,7 +338,7 @@ fn at(live: &[Listing], place: usize) -> Option<MsgId>
 }
 
 /// The least of the ids of those that are due at a clock, from a number on; none if there is none.
-fn due_from(live: &[Listing], from: u64, clock: Moment) -> Option<MsgId>
+pub(crate) fn due_from(live: &[Listing], from: u64, clock: Moment) -> Option<MsgId>
     requires { AreRising (ids_of live.now) }
     ensures { IsLeastFrom from (IsDueIn clock live.now) result }
 {
@@ -371,7 +372,7 @@ fn first_due(live: &[Listing], clock: Moment) -> Option<MsgId>
 }
 
 /// Lists a message of an id, to be looked at by the next tick; there is room for it.
-fn enlist(live: &mut Vec<Listing>, id: MsgId)
+pub(crate) fn enlist(live: &mut Vec<Listing>, id: MsgId)
     requires rising { AreRising (ids_of live.old.items) }
     requires room { length (insert_key nat_cmp (ids_of live.old.items) id) ≤ vec_capacity live.old }
     ensures ids { ids_of live.new.items ≡ insert_key nat_cmp (ids_of live.old.items) id }
@@ -390,22 +391,22 @@ fn enlist(live: &mut Vec<Listing>, id: MsgId)
 }
 
 /// Takes those that are awake and decided off both lists. It goes over the list of those that are live only if there is one.
-fn unlist(live: &mut Vec<Listing>, awake: &mut Vec<MsgId>, shelf: &Shelf<Message>)
+fn unlist(live: &mut Roll, awake: &mut Vec<MsgId>, shelf: &Shelf<Message>)
     requires { (l : ListingValue) → In l live.old.items → l.until ≡ None → In l.id awake.old.items }
     ensures live { live.new.items ≡ filter (is_kept_listed shelf.now.entries) live.old.items }
     ensures awake { awake.new.items ≡ filter (is_live_in shelf.now.entries) awake.old.items }
-    ensures capacity { vec_capacity live.new ≡ vec_capacity live.old }
+    ensures capacity { live.new.width ≡ live.old.width }
     ensures room { vec_capacity awake.new ≡ vec_capacity awake.old }
 {
     let were = awake.len();
     awake.retain(|id| is_live(shelf, *id));
     if awake.len() < were {
-        live.retain(|listing| listing.until.is_some() || is_live(shelf, listing.id));
+        live.keep_live(shelf);
     }
 }
 
 /// Whether the message of an id is not decided.
-fn is_live(shelf: &Shelf<Message>, id: MsgId) -> bool
+pub(crate) fn is_live(shelf: &Shelf<Message>, id: MsgId) -> bool
     ensures { result ≡ is_live id (value_at shelf.now.entries id) }
 {
     match shelf.get(id.number()) {

@@ -1,7 +1,7 @@
 //! The messages that are live, as it is noted until when they sleep.
 
-ghost use Rattle.std.specs.Prelude.{◌≡◌, ◌≤◌, ◌<◌, length, map, Some, None};
-ghost use Rattle.std.specs.Vec.{vec_capacity};
+ghost use Rattle.std.specs.Prelude.{◌≡◌, ◌≤◌, ◌<◌, ◌+◌, ◌++◌, length, map, Some, None};
+ghost use Rattle.std.specs.Vec.{vec_capacity, vec_len};
 ghost use Rattle.node_parts.specs.Rising.{AreRising};
 ghost use Rattle.node_parts.specs.Sleeping.{dozed, ids_of, is_looked_at, reach_noted};
 ghost use Rattle.node_parts.specs.Waking.{AreAwake, all_looked_at, awake_in, looked_at, sooner, soonest_at, soonest_in, until_at};
@@ -11,13 +11,14 @@ use crate::listing::Listing;
 use crate::message::Message;
 use crate::message_shelf::place_of;
 use crate::noted::Noted;
+use crate::roll::Roll;
 use mc_types::{Moment, MsgId};
 use shelf::Shelf;
 
 /// Notes until when each message sleeps that is due at a clock, or each, if there is none. If no other one wakes at the clock, it looks at those that are
 /// awake alone.
 pub(crate) fn doze_due(
-    live: &mut Vec<Listing>,
+    live: &mut Roll,
     awake: &mut Awake,
     shelf: &Shelf<Message>,
     noted: &Noted,
@@ -27,7 +28,7 @@ pub(crate) fn doze_due(
     requires awake { AreAwake awake.old.until live.old.items awake.old.ids.items }
     requires room { length live.old.items ≤ vec_capacity awake.old.ids }
     ensures live { live.new.items ≡ map (dozed shelf.now.entries noted.now.me (reach_noted noted.now) clock.now) live.old.items }
-    ensures capacity { vec_capacity live.new ≡ vec_capacity live.old }
+    ensures capacity { live.new.width ≡ live.old.width }
     ensures awake { AreAwake awake.new.until live.new.items awake.new.ids.items }
     ensures room { vec_capacity awake.new.ids ≡ vec_capacity awake.old.ids }
 {
@@ -39,7 +40,7 @@ pub(crate) fn doze_due(
 
 /// Notes until when each message sleeps that is awake, at a clock at which no other one wakes. It looks at no other one.
 fn doze_awake(
-    live: &mut Vec<Listing>,
+    live: &mut Roll,
     awake: &mut Awake,
     shelf: &Shelf<Message>,
     noted: &Noted,
@@ -49,18 +50,18 @@ fn doze_awake(
     requires awake { AreAwake awake.old.until live.old.items awake.old.ids.items }
     requires clock { clock < awake.old.until }
     ensures live { live.new.items ≡ map (dozed shelf.now.entries noted.now.me (reach_noted noted.now) (Some clock)) live.old.items }
-    ensures capacity { vec_capacity live.new ≡ vec_capacity live.old }
+    ensures capacity { live.new.width ≡ live.old.width }
     ensures awake { AreAwake awake.new.until live.new.items awake.new.ids.items }
     ensures room { vec_capacity awake.new.ids ≡ vec_capacity awake.old.ids }
 {
     doze_all(live, &awake.ids, shelf, noted, clock);
     awake.until = soonest_at(live, &awake.ids, awake.until);
-    awake.ids.retain(|id| until_at(live, *id).is_none());
+    awake.ids.retain(|id| live.until_at(*id).is_none());
 }
 
 /// Notes until when each message sleeps that is due at a clock, or each, if there is none.
 fn doze_live(
-    live: &mut Vec<Listing>,
+    live: &mut Roll,
     awake: &mut Awake,
     shelf: &Shelf<Message>,
     noted: &Noted,
@@ -69,35 +70,29 @@ fn doze_live(
     requires rising { AreRising (ids_of live.old.items) }
     requires room { length live.old.items ≤ vec_capacity awake.old.ids }
     ensures live { live.new.items ≡ map (dozed shelf.now.entries noted.now.me (reach_noted noted.now) clock.now) live.old.items }
-    ensures capacity { vec_capacity live.new ≡ vec_capacity live.old }
+    ensures capacity { live.new.width ≡ live.old.width }
     ensures awake { AreAwake awake.new.until live.new.items awake.new.ids.items }
     ensures room { vec_capacity awake.new.ids ≡ vec_capacity awake.old.ids }
 {
-    doze_each(live, shelf, noted, clock);
-    awake.until = soonest_in(live);
-    gather(&mut awake.ids, live);
+    live.doze_each(shelf, noted, clock);
+    awake.until = live.soonest();
+    live.gather(&mut awake.ids);
 }
 
 /// Notes until when each of these messages sleeps that is due at a clock.
-fn doze_all(
-    live: &mut Vec<Listing>,
-    ids: &[MsgId],
-    shelf: &Shelf<Message>,
-    noted: &Noted,
-    clock: Moment,
-)
+fn doze_all(live: &mut Roll, ids: &[MsgId], shelf: &Shelf<Message>, noted: &Noted, clock: Moment)
     requires { AreRising (ids_of live.old.items) }
     ensures live { live.new.items
         ≡ all_looked_at (dozed shelf.now.entries noted.now.me (reach_noted noted.now) (Some clock)) ids.now live.old.items }
-    ensures capacity { vec_capacity live.new ≡ vec_capacity live.old }
+    ensures capacity { live.new.width ≡ live.old.width }
 {
     for id in ids {
-        doze_one(live, *id, shelf, noted, clock);
+        live.doze_one(*id, shelf, noted, clock);
     }
 }
 
 /// Notes until when a message sleeps, if it is listed and due at a clock.
-fn doze_one(
+pub(crate) fn doze_one(
     live: &mut Vec<Listing>,
     id: MsgId,
     shelf: &Shelf<Message>,
@@ -115,7 +110,12 @@ fn doze_one(
 }
 
 /// Notes until when each message sleeps that is due at a clock, or each, if there is none.
-fn doze_each(live: &mut Vec<Listing>, shelf: &Shelf<Message>, noted: &Noted, clock: &Option<Moment>)
+pub(crate) fn doze_each(
+    live: &mut Vec<Listing>,
+    shelf: &Shelf<Message>,
+    noted: &Noted,
+    clock: &Option<Moment>,
+)
     ensures live { live.new.items ≡ map (dozed shelf.now.entries noted.now.me (reach_noted noted.now) clock.now) live.old.items }
     ensures capacity { vec_capacity live.new ≡ vec_capacity live.old }
 {
@@ -147,7 +147,7 @@ fn is_looked_at(clock: &Option<Moment>, listing: &Listing) -> bool
 }
 
 /// Until when the message of an id sleeps, on a list that ascends; none if it is awake, or not listed.
-fn until_at(live: &[Listing], id: MsgId) -> Option<Moment>
+pub(crate) fn until_at(live: &[Listing], id: MsgId) -> Option<Moment>
     ensures { AreRising (ids_of live.now) → result ≡ until_at live.now id }
 {
     match live.binary_search_by_key(&id, |listing| listing.id) {
@@ -157,22 +157,22 @@ fn until_at(live: &[Listing], id: MsgId) -> Option<Moment>
 }
 
 /// The soonest moment until which one of these messages sleeps, or this one, if it is before that.
-fn soonest_at(live: &[Listing], ids: &[MsgId], until: Moment) -> Moment
-    requires { AreRising (ids_of live.now) }
-    ensures { result ≡ soonest_at live.now ids.now until }
+fn soonest_at(live: &Roll, ids: &[MsgId], until: Moment) -> Moment
+    requires { AreRising (ids_of live.now.items) }
+    ensures { result ≡ soonest_at live.now.items ids.now until }
 {
     let mut soonest = until;
     for id in ids {
-        soonest = sooner(soonest, until_at(live, *id));
+        soonest = sooner(soonest, live.until_at(*id));
     }
     soonest
 }
 
-/// The soonest moment until which a message sleeps; the last one if all are awake.
-fn soonest_in(live: &[Listing]) -> Moment
-    ensures { result ≡ soonest_in live.now 4102444799 }
+/// The soonest moment until which one of these messages sleeps, or this one, if it is before that.
+pub(crate) fn soonest_in(live: &[Listing], until: Moment) -> Moment
+    ensures { result ≡ soonest_in live.now until }
 {
-    let mut soonest = Moment::least().later(u32::MAX);
+    let mut soonest = until;
     for listing in live {
         soonest = sooner(soonest, listing.until);
     }
@@ -189,13 +189,13 @@ fn sooner(until: Moment, other: Option<Moment>) -> Moment
     }
 }
 
-/// Puts the ids of those that are awake in the place of these ids; there is room for them.
-fn gather(ids: &mut Vec<MsgId>, live: &[Listing])
-    requires { length live.now ≤ vec_capacity ids.old }
-    ensures ids { ids.new.items ≡ awake_in live.now }
+/// Adds the ids of those that are awake to these ids; there is room for them.
+pub(crate) fn gather(ids: &mut Vec<MsgId>, live: &[Listing])
+    requires { vec_len ids.old + length live.now ≤ vec_capacity ids.old }
+    ensures ids { ids.new.items ≡ ids.old.items ++ awake_in live.now }
+    ensures len { vec_len ids.new ≤ vec_len ids.old + length live.now }
     ensures capacity { vec_capacity ids.new ≡ vec_capacity ids.old }
 {
-    ids.clear();
     for listing in live {
         if listing.until.is_none() {
             ids.push_reserved(listing.id);

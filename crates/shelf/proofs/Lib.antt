@@ -3,3 +3,8 @@ pub mod Searches
 pub mod Visited
 pub mod Ascending
 pub mod Apart
+pub mod Rooms
+pub mod Parting
+pub mod Entered
+pub mod Shelving
+pub mod Changing

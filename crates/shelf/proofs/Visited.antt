@@ -5,10 +5,11 @@ use Rattle.std.specs.Ordering.{nat_cmp}
 use Rattle.std.specs.Map.{keys_of}
 use Rattle.std.specs.declared.cmp.Ordering.{Ordering}
 use Rattle.std.specs.declared.cmp.Ordering.TheVariants.{Less, Equal, Greater}
-use Rattle.std.specs.Global.{Box}
+use Rattle.std.specs.Global.{Box, Vec}
 use Rattle.std.specs.Box.{box_value}
-use Rattle.std.proofs.lemmas.List.{get_or-map, length-map, map-set}
-use Rattle.shelf.specs.Places.{entries_of, entry_of}
+use Rattle.std.proofs.lemmas.List.{get_or-map, length-map, length-set, map-set, set-get_or}
+use Rattle.shelf.specs.Parted.{free_in, frees_of}
+use Rattle.shelf.specs.Places.{entries_of, entry_of, lists_in}
 use Rattle.shelf.specs.Shelved.{value_at}
 
 module _ {A : Type 0} (f : A → A) where
@@ -76,3 +77,40 @@ module _ {V : Type 0} (f : V → V) where
       ∙ (λ i. set (before i) place (new i))
       ∙ one_more visited place old d (omega arith)
       ∙ (let more : suc place ≡ place + 1 = omega arith in ap (λ (n : ℕ). changed_to visited n old) more)
+
+  -- so many parts are visited
+  pub record AreVisited (old new : List (Vec (ℕ × Box V))) (place : ℕ) : Type 0 where
+    pub number : length new ≡ length old
+    pub frees : frees_of new ≡ frees_of old
+    pub lists : lists_in new ≡ changed_to (map visited) place (lists_in old)
+
+  pub visited_part : (old new : List (Vec (ℕ × Box V))) (place : ℕ) (part after : Vec (ℕ × Box V)) → AreVisited old new place → place < length new →
+      part ≡ get_or new place part → free_in after ≡ free_in part → entries_of after.items ≡ map visited (entries_of part.items) →
+      AreVisited old (set new place after) (place + 1)
+  visited_part old new place part after visits within read same leaves =
+      let number : length (lists_in old) ≡ length old = length-map old (λ (p : Vec (ℕ × Box V)). entries_of p.items) in
+      let free_read : get_or (frees_of new) place 0 ≡ free_in part = get_or-map free_in new place part 0 within ∙ sym (ap free_in read) in
+      let list_read : get_or (lists_in old) place [] ≡ entries_of part.items =
+      sym (next_is (map visited) place (lists_in old) [])
+      ∙ ap (λ (l : List (List (ℕ × V))). get_or l place []) (sym visits.lists)
+      ∙ get_or-map (λ (p : Vec (ℕ × Box V)). entries_of p.items) new place part [] within
+      ∙ sym (ap (λ (p : Vec (ℕ × Box V)). entries_of p.items) read) in
+      record {
+        number = length-set new place after ∙ visits.number;
+        frees =
+            map-set free_in new place after
+            ∙ ap (λ (n : ℕ). set (frees_of new) place n) (same ∙ sym free_read)
+            ∙ set-get_or (frees_of new) place 0
+            ∙ visits.frees;
+        lists =
+            map-set (λ (p : Vec (ℕ × Box V)). entries_of p.items) new place after
+            ∙ (λ i. set (visits.lists i) place ((leaves ∙ ap (map visited) (sym list_read)) i))
+            ∙ one_more (map visited) place (lists_in old) [] (omega (arith, number, visits.number, within))
+            ∙ (let more : suc place ≡ place + 1 = omega arith in ap (λ (n : ℕ). changed_to (map visited) n (lists_in old)) more);
+      }
+
+  pub all_visited : (old new : List (Vec (ℕ × Box V))) (place : ℕ) → AreVisited old new place → length old ≤ place →
+      lists_in new ≡ map (map visited) (lists_in old)
+  all_visited old new place visits most =
+      let number : length (lists_in old) ≡ length old = length-map old (λ (p : Vec (ℕ × Box V)). entries_of p.items) in
+      visits.lists ∙ all_changed (map visited) place (lists_in old) (omega (arith, number, most))

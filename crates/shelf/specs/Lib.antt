@@ -1,3 +1,4 @@
 pub mod Shelved
+pub mod Parted
 pub mod Places
 pub mod Lends

@@ -4,8 +4,9 @@ use Rattle.std.specs.Ordering.{nat_cmp}
 use Rattle.std.specs.Map.{keys_of}
 use Rattle.std.specs.List.Sorted.{IsStrictlySortedBy}
 use Rattle.std.specs.Borrow.{Bor}
-use Rattle.std.specs.Global.{Box}
+use Rattle.std.specs.Global.{Box, Vec}
 use Rattle.std.specs.Box.{box_value}
+use Rattle.shelf.specs.Parted.{IsNumberOfParts, LieFrom, joined}
 
 -- the entries, as contracts see them
 abbrev pub entry_of : {V : Type 0} → ℕ × Box V → ℕ × V
@@ -13,6 +14,19 @@ entry_of entry = (entry.0, box_value entry.1)
 
 abbrev pub entries_of : {V : Type 0} → List (ℕ × Box V) → List (ℕ × V)
 entries_of entries = map entry_of entries
+
+-- the entries in parts, and all of them
+abbrev pub lists_in : {V : Type 0} → List (Vec (ℕ × Box V)) → List (List (ℕ × V))
+lists_in parts = map (λ part. entries_of part.items) parts
+
+abbrev pub entries_in : {V : Type 0} → List (Vec (ℕ × Box V)) → List (ℕ × V)
+entries_in parts = joined (lists_in parts)
+
+-- each entry lies in the part of its key, and all ascend
+pub record AreInParts {V : Type 0} (parts : List (Vec (ℕ × Box V))) : Type 0 where
+  pub ascend : IsStrictlySortedBy nat_cmp (keys_of (entries_in parts))
+  pub lie : LieFrom (λ entry. entry.0) 0 (lists_in parts)
+  pub number : IsNumberOfParts (length parts)
 
 -- a key and a reference to its value
 abbrev pub entry_seen : {V : Type 0} → ℕ × Bor V → ℕ × V

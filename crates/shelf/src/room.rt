@@ -2,24 +2,25 @@
 
 ghost use Rattle.std.specs.Prelude.{◌≡◌, ◌≤◌, IfOk};
 
+use crate::parts::{Parts, parts_of};
 use std::alloc::{AllocError, Global};
 use std::marker::Model;
 
-/// Room for so many entries of a shelf in all, which holds none yet. Contracts see it as their number.
+/// Room for so many entries of a shelf, wherever their keys lie, which holds none yet. Contracts see it as their number.
 #[derive(Drop)]
 pub struct Room<V> {
-    pub(crate) entries: Vec<(u64, Box<V>)>,
+    pub(crate) parts: Parts<(u64, Box<V>)>,
 }
 
 impl<V> Model for Room<V> {
-    ghost use Rattle.std.specs.Prelude.{◌≡◌, ℕ, []};
-    ghost use Rattle.std.specs.Vec.{vec_capacity};
+    ghost use Rattle.std.specs.Prelude.{◌≡◌, ℕ, [], length};
+    ghost use Rattle.shelf.specs.Parted.{IsNumberOfParts, all_in, room_in};
 
     ghost Value = { ℕ };
 
-    ghost view = { λ r. vec_capacity r.entries };
+    ghost view = { λ r. room_in r.parts.items };
 
-    ghost invariant = { λ r. r.entries.items ≡ [] };
+    ghost invariant = { λ r. IsNumberOfParts (length r.parts.items) × (all_in r.parts.items ≡ []) };
 }
 
 impl<V> Room<V> {
@@ -28,7 +29,7 @@ impl<V> Room<V> {
         ensures { result ≡ 0 }
     {
         Room {
-            entries: Vec::new(alloc),
+            parts: Vec::new(alloc),
         }
     }
 
@@ -37,7 +38,7 @@ impl<V> Room<V> {
         ensures { IfOk result (λ room. room ≡ entries) }
     {
         Ok(Room {
-            entries: Vec::with_capacity(alloc, entries)?,
+            parts: parts_of(alloc, entries)?,
         })
     }
 }

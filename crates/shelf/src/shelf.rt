@@ -1,6 +1,6 @@
 //! The shelf.
 
-ghost use Rattle.std.specs.Prelude.{◌≡◌, ◌≤◌, ◌<◌, ◌+◌, ◌-◌, ◌++◌, [], None, Some, length, map, max, IsSome, IfOk, OnErr, option_map};
+ghost use Rattle.std.specs.Prelude.{◌≡◌, ◌≤◌, ◌<◌, ◌+◌, ◌-◌, [], None, Some, length, map, max, IsSome, IfOk, OnErr, option_map};
 ghost use Rattle.std.specs.Option.{option_copied, option_copied_mut};
 ghost use Rattle.std.specs.Borrow.{sem};
 ghost use Rattle.std.specs.List.{insert, slice_get};
@@ -10,43 +10,38 @@ ghost use Rattle.std.specs.Ordering.{nat_cmp};
 ghost use Rattle.std.specs.Vec.{vec_capacity, vec_len};
 ghost use Rattle.std.specs.Box.{box_value};
 ghost use Rattle.shelf.specs.Shelved.{Serves, value_at, with_value};
-ghost use Rattle.shelf.specs.Places.{IsPlaceOf, entries_of, entry_seen};
+ghost use Rattle.shelf.specs.Parted.{free_in, frees_of};
+ghost use Rattle.shelf.specs.Places.{IsPlaceOf, entries_in, entries_of, entry_seen, lists_in};
 
+use crate::parts::{Parts, free, item_at, part_of, parts_of, widen_parts};
 use crate::room::Room;
 use crate::visit::Visit;
 use std::alloc::{AllocError, Global};
 use std::marker::Model;
-use std::mem;
 
 /// A table from numbers to values, in the order of the numbers. A value is put into it without taking memory, if there is room.
 ///
-/// A look-up costs the logarithm of how many there are. A value under a key above all others is put after them, at no more cost as
-/// the table grows; one in the middle moves those after it, 16 octets each.
+/// It lies in ten parts, by spans of 1,000,000,000 keys, the highest keys in the last. A look-up costs the logarithm of how many there are in a part. A value
+/// under a key above all others of its part is put after them, at no more cost as the table grows; one in the middle moves those after it in the part, 16
+/// octets each.
 #[derive(Drop)]
 pub struct Shelf<V> {
-    entries: Vec<(u64, Box<V>)>,
+    parts: Parts<(u64, Box<V>)>,
 }
 
 impl<V> Model for Shelf<V> {
-    ghost use Rattle.std.specs.Prelude.{◌-◌};
-    ghost use Rattle.std.specs.Vec.{vec_capacity, vec_len};
-    ghost use Rattle.std.specs.Ordering.{nat_cmp};
-    ghost use Rattle.std.specs.Map.{keys_of};
-    ghost use Rattle.std.specs.List.Sorted.{IsStrictlySortedBy};
     ghost use Rattle.shelf.specs.Shelved.{Shelved, shelved_code};
 
     ghost Value = { Shelved V };
 
     ghost coded = { shelved_code V.code };
 
-    ghost use Rattle.shelf.specs.Places.{entries_of};
+    ghost use Rattle.shelf.specs.Parted.{room_in};
+    ghost use Rattle.shelf.specs.Places.{AreInParts, entries_in};
 
-    ghost view = { λ s. record {
-      entries = entries_of s.entries.items;
-      room = vec_capacity s.entries - vec_len s.entries;
-    } };
+    ghost view = { λ s. record { entries = entries_in s.parts.items; room = room_in s.parts.items } };
 
-    ghost invariant = { λ s. IsStrictlySortedBy nat_cmp (keys_of (entries_of s.entries.items)) };
+    ghost invariant = { λ s. AreInParts s.parts.items };
 }
 
 impl<V> Shelf<V> {
@@ -58,7 +53,7 @@ impl<V> Shelf<V> {
         ensures room { result.room ≡ 0 }
     {
         Shelf {
-            entries: Vec::new(alloc),
+            parts: Vec::new(alloc),
         }
     }
 
@@ -68,7 +63,7 @@ impl<V> Shelf<V> {
         ensures room { IfOk result (λ shelf. shelf.room ≡ room) }
     {
         Ok(Shelf {
-            entries: Vec::with_capacity(alloc, room)?,
+            parts: parts_of(alloc, room)?,
         })
     }
 
@@ -76,17 +71,17 @@ impl<V> Shelf<V> {
     pub fn len(&self) -> usize
         ensures { result ≡ length self.now.entries }
     {
-        self.entries.len()
+        count(&self.parts)
     }
 
     /// The value of a key; none if it has none.
     pub fn get(&self, key: u64) -> Option<&V>
         ensures { option_copied result ≡ value_at self.now.entries key }
     {
-        match place_of(&self.entries, key) {
-            Ok(place) => Some(&self.entries[place].1),
-            Err(_) => None,
+        if self.parts.is_empty() {
+            return None;
         }
+        value_in(&self.parts[part_of(key)], key)
     }
 
     /// The value of a key, to be changed; none if it has none.
@@ -94,8 +89,12 @@ impl<V> Shelf<V> {
         ensures* writes_back { sem 𝓛 (lends_value V.row self.entry key result) }
         ensures value { option_copied_mut result ≡ value_at self.old.entries key }
     {
-        match place_of(&self.entries, key) {
-            Ok(place) => Some(&mut *self.entries[place].1),
+        if self.parts.is_empty() {
+            return None;
+        }
+        let part = part_of(key);
+        match place_of(&self.parts[part], key) {
+            Ok(place) => Some(&mut *self.parts[part][place].1),
             Err(_) => None,
         }
     }
@@ -105,7 +104,7 @@ impl<V> Shelf<V> {
         ensures entry { option_map entry_seen result ≡ slice_get self.now.entries place }
         ensures ascends { IsStrictlySortedBy nat_cmp (keys_of self.now.entries) }
     {
-        let (key, value) = self.entries.get(place)?;
+        let (key, value) = item_at(&self.parts, place)?;
         Some((*key, value))
     }
 
@@ -113,7 +112,7 @@ impl<V> Shelf<V> {
     pub fn ascends(&self)
         ensures { IsStrictlySortedBy nat_cmp (keys_of self.now.entries) }
     {
-        let _len = self.entries.len();
+        let _parts = self.parts.len();
     }
 
     /// Room for so many more entries, to be handed to `make_room`. It takes memory only if the shelf has no room for them; then
@@ -123,10 +122,10 @@ impl<V> Shelf<V> {
         ensures none { more ≤ self.now.room → IfOk result (λ room. room ≡ 0) }
         ensures memory { OnErr result (self.now.room < more) }
     {
-        let length = self.entries.len();
-        if more <= self.entries.capacity() - length {
+        if more <= free(&self.parts) {
             return Ok(Room::none(alloc));
         }
+        let length = self.len();
         let Some(least) = length.checked_add(more) else {
             return Err(AllocError);
         };
@@ -134,17 +133,18 @@ impl<V> Shelf<V> {
     }
 
     /// Moves the entries into this room, if it is larger than what the shelf has. It takes no memory.
-    pub fn make_room(&mut self, mut room: Room<V>)
+    pub fn make_room(&mut self, room: Room<V>)
     where
         V: Drop,
         ensures entries { self.new.entries ≡ self.old.entries }
         ensures room { max self.old.room (room - length self.old.entries) ≤ self.new.room }
     {
-        if room.entries.capacity() <= self.entries.capacity() {
-            return;
+        let Room { parts } = room;
+        if self.parts.is_empty() {
+            self.parts = parts;
+        } else {
+            widen_parts(&mut self.parts, parts);
         }
-        append_reserved(&mut room.entries, &mut self.entries);
-        mem::swap(&mut self.entries, &mut room.entries);
     }
 
     /// Does this with each value. It takes no memory.
@@ -152,7 +152,7 @@ impl<V> Shelf<V> {
         ensures entries { self.new.entries ≡ map (λ entry. (entry.0, F.leaves visit.now entry.1)) self.old.entries }
         ensures room { self.new.room ≡ self.old.room }
     {
-        visit_each(&mut self.entries, visit);
+        visit_parts(&mut self.parts, visit);
     }
 
     /// Puts a value under a key, in the place of the one that was there. For a key that has none there is room. It takes no memory.
@@ -164,16 +164,61 @@ impl<V> Shelf<V> {
         ensures room { self.old.room ≤ self.new.room + 1 }
         ensures kept { IsSome (value_at self.old.entries key) → self.new.room ≡ self.old.room }
     {
-        match place_of(&self.entries, key) {
-            Ok(place) => self.entries[place].1 = value,
-            Err(place) => insert_reserved(&mut self.entries, place, (key, value)),
-        }
+        put_in(&mut self.parts[part_of(key)], key, value);
+    }
+}
+
+/// How many entries there are in parts.
+fn count<V>(parts: &[Vec<(u64, Box<V>)>]) -> usize
+    requires { length parts.now ≤ 10 }
+    ensures { result ≡ length (entries_in parts.now) }
+{
+    let mut entries = 0;
+    for part in parts {
+        let part: &[(u64, Box<V>)] = part;
+        entries += part.len();
+    }
+    entries
+}
+
+/// The value of a key in a part; none if it has none.
+fn value_in<V>(part: &[(u64, Box<V>)], key: u64) -> Option<&V>
+    requires { IsStrictlySortedBy nat_cmp (keys_of (entries_of part.now)) }
+    ensures { option_copied result ≡ value_at (entries_of part.now) key }
+{
+    match place_of(part, key) {
+        Ok(place) => Some(&part[place].1),
+        Err(_) => None,
+    }
+}
+
+/// Puts a value under a key into its part, in the place of the one that was there. For a key that has none there is room.
+fn put_in<V: Drop>(part: &mut Vec<(u64, Box<V>)>, key: u64, value: Box<V>)
+    requires ascends { IsStrictlySortedBy nat_cmp (keys_of (entries_of part.old.items)) }
+    requires room { value_at (entries_of part.old.items) key ≡ None → 0 < free_in part.old }
+    ensures entries { entries_of part.new.items ≡ with_value (entries_of part.old.items) key (box_value value) }
+    ensures room { free_in part.old ≤ free_in part.new + 1 }
+    ensures kept { IsSome (value_at (entries_of part.old.items) key) → free_in part.new ≡ free_in part.old }
+{
+    match place_of(part, key) {
+        Ok(place) => part[place].1 = value,
+        Err(place) => insert_reserved(part, place, (key, value)),
+    }
+}
+
+/// Does this with the value of each entry in parts.
+fn visit_parts<V, F: Visit<V>>(parts: &mut Parts<(u64, Box<V>)>, visit: &F)
+    ensures room { frees_of parts.new.items ≡ frees_of parts.old.items }
+    ensures entries { lists_in parts.new.items ≡ map (map (λ entry. (entry.0, F.leaves visit.now entry.1))) (lists_in parts.old.items) }
+{
+    for part in parts.iter_mut() {
+        visit_each(part, visit);
     }
 }
 
 /// Does this with the value of each entry.
 fn visit_each<V, F: Visit<V>>(entries: &mut Vec<(u64, Box<V>)>, visit: &F)
-    ensures room { vec_capacity entries.new - vec_len entries.new ≡ vec_capacity entries.old - vec_len entries.old }
+    ensures room { free_in entries.new ≡ free_in entries.old }
     ensures entries { entries_of entries.new.items ≡ map (λ entry. (entry.0, F.leaves visit.now entry.1)) (entries_of entries.old.items) }
 {
     for entry in entries.iter_mut() {
@@ -197,19 +242,6 @@ fn insert_reserved<T: Drop>(items: &mut Vec<T>, place: usize, item: T)
     ensures capacity { vec_capacity items.new ≡ vec_capacity items.old }
 {
     if items.insert(place, item).is_err() {
-        unreachable!();
-    }
-}
-
-/// Moves the items of one vector to the end of another that has room for them.
-fn append_reserved<T>(all: &mut Vec<T>, items: &mut Vec<T>)
-    requires { vec_len all.old + vec_len items.old ≤ vec_capacity all.old }
-    ensures all { all.new.items ≡ all.old.items ++ items.old.items }
-    ensures len { vec_len all.new ≡ vec_len all.old + vec_len items.old }
-    ensures capacity { vec_capacity all.old ≤ vec_capacity all.new }
-    ensures items { items.new.items ≡ [] }
-{
-    if all.append(items).is_err() {
         unreachable!();
     }
 }

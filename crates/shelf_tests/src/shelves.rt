@@ -33,6 +33,43 @@ fn values_are_found_by_their_keys_in_whatever_order_they_came(rt: HostRuntime) -
 }
 
 #[test]
+fn values_whose_keys_lie_far_apart_stand_in_the_order_of_their_keys(
+    rt: HostRuntime,
+) -> Result<(), Fail> {
+    let mut shelf = Shelf::empty(rt.alloc());
+    let keys = [
+        3_000_000_001,
+        12_000_000_000,
+        1_000_000_002,
+        9_000_000_007,
+        999_999_999,
+        1_000_000_001,
+    ];
+    for key in keys {
+        put(&mut shelf, rt.alloc(), key, (key % 1_000) as u32)?;
+    }
+    assert_eq!(rt; shelf.len(), 6);
+    for key in keys {
+        assert_eq!(rt; shelf.get(key).copied(), Some((key % 1_000) as u32));
+    }
+    let ascending = [
+        999_999_999,
+        1_000_000_001,
+        1_000_000_002,
+        3_000_000_001,
+        9_000_000_007,
+        12_000_000_000,
+    ];
+    for (place, key) in ascending.into_iter().enumerate() {
+        let (found, _value) = shelf.at(place).ok_or("an entry")?;
+        assert_eq!(rt; found, key);
+    }
+    assert!(rt; shelf.at(6).is_none());
+    assert!(rt; shelf.get(2_000_000_001).is_none());
+    Ok(())
+}
+
+#[test]
 fn a_value_takes_the_place_of_that_of_its_key(rt: HostRuntime) -> Result<(), Fail> {
     let mut shelf = Shelf::empty(rt.alloc());
     put(&mut shelf, rt.alloc(), 4, 40)?;

@@ -1,13 +1,13 @@
 use Rattle.std.proofs.Common.{◌≡◌, ◌≤◌, ℕ, List, length, sym, subst, rules}
 use Rattle.std.specs.Prelude.{filter}
 use Rattle.std.proofs.lemmas.Fn.{filter_same}
-use Rattle.node_parts.specs.Living.{is_kept_listed, is_live_in}
+use Rattle.node_parts.specs.Living.{is_live_in}
 use Rattle.node_parts.proofs.Waking.{none_left_out}
 use Rattle.node_parts.proofs.message_shelf.unlist.Goals as goal
 
 pub returns-then-len-were-clause-live : goal.returns-then-len-were-clause-live
 returns-then-len-were-clause-live c =
-    filter_same _ (is_kept_listed c.args.shelf.now.entries) _ (λ x b g k. search rules) _ _ c.retain-then-len-were.ensures.filtered
+    c.keep_live.ensures.items
 
 pub returns-then-len-were-clause-awake : goal.returns-then-len-were-clause-awake
 returns-then-len-were-clause-awake c =

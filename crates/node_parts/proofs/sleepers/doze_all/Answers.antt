@@ -15,9 +15,9 @@ loop-id-preserved c =
     let next : drop place ids ≡ c.id-item.result ∷ drop (place + 1) ids =
     drop-cons ids place c.id-item.result c.loop-id-test.true ∙ (λ i. sym c.id-item.is i ∷ drop (more i) ids) in
     let old = c.loop-id.invariant in (
-      rw (c.doze_one.ensures.live) (sym (ap (λ (ns : List ℕ). all_looked_at look ns before) next) ∙ old.0),
+      rw (c.doze_one.ensures.items) (sym (ap (λ (ns : List ℕ). all_looked_at look ns before) next) ∙ old.0),
       (
-        ap ids_of c.doze_one.ensures.live ∙ ids_looked_at look (λ l. refl) c.id-item.result before ∙ old.1.0,
-        c.doze_one.ensures.capacity ∙ old.1.1,
+        ap ids_of c.doze_one.ensures.items ∙ ids_looked_at look (λ l. refl) c.id-item.result before ∙ old.1.0,
+        c.doze_one.ensures.width ∙ old.1.1,
       ),
     )

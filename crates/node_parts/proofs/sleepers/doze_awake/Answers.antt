@@ -21,7 +21,7 @@ soonest_at-awake-requires c =
     c.doze_all.ensures.live
     ∙ ap (λ (ns : List ℕ). all_looked_at look ns old) c.deref.ensures.value
     ∙ all_dozed entries me reach c.args.clock c.args.awake.now.until old ids c.requires.rising c.requires.awake c.requires.clock in
-    subst (λ (ls : List Listing). AreRising (ids_of ls)) (sym (c.deref-2.ensures.value ∙ live))
+    subst (λ (ls : List Listing). AreRising (ids_of ls)) (sym live)
     (rise_dozed entries me reach c.args.clock c.args.awake.now.until old ids c.requires.rising c.requires.awake c.requires.clock)
 
 live_is : (c : goal.After-retain) → c.doze_all.new.live.items
@@ -53,7 +53,7 @@ returns-clause-awake c =
     subst (λ (ls : List Listing). AreRising (ids_of ls)) (sym live)
     (rise_dozed entries me reach c.args.clock until old ids c.requires.rising c.requires.awake c.requires.clock) in
     let soonest : c.soonest_at-awake.result ≡ soonest_at new ids until =
-    c.soonest_at-awake.ensures ∙ (λ i. soonest_at (c.deref-2.ensures.value i) (c.deref-3.ensures.value i) until) in
+    c.soonest_at-awake.ensures ∙ ap (λ ns. soonest_at new ns until) c.deref-2.ensures.value in
     let stay : c.retain.new.self.items ≡ filter (λ id. is_none (until_at new id)) ids =
     filter_same _ (λ id. is_none (until_at new id)) _ (λ x b g k. search (rules, rise)) _ _ c.retain.ensures.filtered in
     rw (soonest, stay)

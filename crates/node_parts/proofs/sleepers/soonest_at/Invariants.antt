@@ -3,4 +3,4 @@ use Rattle.node_parts.specs.Waking.{soonest_at}
 use Rattle.node_parts.proofs.sleepers.soonest_at.Given as goal
 
 abbrev pub invariant-loop-id : goal.invariant-loop-id
-invariant-loop-id l = soonest_at l.live (drop l.id-index l.ids) l.soonest ≡ soonest_at l.live l.ids l.fn.until
+invariant-loop-id l = soonest_at l.live.items (drop l.id-index l.ids) l.soonest ≡ soonest_at l.live.items l.ids l.fn.until

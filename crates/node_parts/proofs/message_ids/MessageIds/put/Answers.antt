@@ -1,6 +1,4 @@
-use Rattle.std.proofs.Common.{List, ℕ, sym, subst, arith}
-use Rattle.std.specs.BTreeSet.{insert_key}
-use Rattle.std.specs.Ordering.{nat_cmp}
+use Rattle.std.proofs.Common.{sym, subst, arith}
 use Rattle.node_parts.specs.Rising.{AreRising}
 use Rattle.node_parts.proofs.Naming.{one_more_at_most}
 use Rattle.node_parts.proofs.Rising.{rise_put}

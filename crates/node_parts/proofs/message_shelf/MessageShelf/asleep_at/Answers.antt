@@ -1,4 +1,4 @@
-use Rattle.std.proofs.Common.{ℕ, Bool, List, subst}
+use Rattle.std.proofs.Common.{ℕ, List, subst}
 use Rattle.node_parts.specs.Living.{Listed}
 use Rattle.node_parts.specs.Reaching.{are_all, reach_of}
 use Rattle.node_parts.specs.Sleeping.{IsNoted}

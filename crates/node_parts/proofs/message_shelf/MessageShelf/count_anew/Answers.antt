@@ -14,7 +14,7 @@ invariant_of-self c =
     let s = c.self.inside in
     let entries = s.shelf.entries in
     let ids = ids_of s.live.items in
-    let cap = min (vec_capacity s.live) (vec_capacity s.awake.ids) in
+    let cap = min s.live.width (vec_capacity s.awake.ids) in
     let r = c.args.recount in
     let is = subst (λ (l : Listed). IsCountable l.entries c.args.id c.args.recount) (sym c.self.view_is) c.requires in (
       subst (λ (es : List (ℕ × Filed)). AreListed es ids cap) (sym c.count_on.ensures.entries)
@@ -32,7 +32,7 @@ pub returns-clause-listings : goal.returns-clause-listings
 returns-clause-listings c =
     let entries = c.self.inside.shelf.entries in
     let ids = ids_of c.self.inside.live.items in
-    let cap = min (vec_capacity c.self.inside.live) (vec_capacity c.self.inside.awake.ids) in
+    let cap = min c.self.inside.live.width (vec_capacity c.self.inside.awake.ids) in
     let is = subst (λ (l : Listed). IsCountable l.entries c.args.id c.args.recount) (sym c.self.view_is) c.requires in
     let same : length c.count_on.new.shelf.entries ≡ length entries =
     ap length c.count_on.ensures.entries

@@ -1,4 +1,4 @@
-use Rattle.std.proofs.Common.{◌≡◌, ℕ, List, Some, refl, sym, subst, arith}
+use Rattle.std.proofs.Common.{◌≡◌, ℕ, Some, refl, sym, subst, arith}
 use Rattle.std.specs.Prelude.{IsSome, min}
 use Rattle.std.specs.Vec.{vec_capacity}
 use Rattle.std.proofs.lemmas.List.{length-map}
@@ -13,7 +13,7 @@ use Rattle.node_parts.proofs.message_shelf.MessageShelf.doze.Goals as goal
 pub doze_due-requires-clause-room : goal.doze_due-requires-clause-room
 doze_due-requires-clause-room c =
     let s = c.self.inside in
-    let fits = few_listed s.shelf.entries (ids_of s.live.items) (min (vec_capacity s.live) (vec_capacity s.awake.ids)) c.self.invariant.0 c.ascends.ensures in
+    let fits = few_listed s.shelf.entries (ids_of s.live.items) (min s.live.width (vec_capacity s.awake.ids)) c.self.invariant.0 c.ascends.ensures in
     let many = length-map s.live.items (λ (l : Listing). l.id) in
     omega (arith, fits, many)
 
@@ -29,6 +29,6 @@ invariant_of-self c =
     let known : (at : ℕ) → asleep ≡ Some at → IsNoted s.noted me up.items held.tries =
     (λ at is. subst (λ (l : Listed). IsNoted l.noted me up.items held.tries) (sym c.self.view_is)
     (subst (IsNoted c.args.self.now.noted me up.items) (sym c.are_all.ensures) (c.asleep_at-asleep.ensures.noted.0 (subst IsSome (sym is) refl)))) in
-    shelf_dozed s.noted held s.shelf.entries s.live.items new.live.items new.awake.ids.items (min (vec_capacity s.live) (vec_capacity s.awake.ids))
-    (min (vec_capacity new.live) (vec_capacity new.awake.ids)) new.awake.until asleep known c.doze_due.ensures.live
+    shelf_dozed s.noted held s.shelf.entries s.live.items new.live.items new.awake.ids.items (min s.live.width (vec_capacity s.awake.ids))
+    (min new.live.width (vec_capacity new.awake.ids)) new.awake.until asleep known c.doze_due.ensures.live
     (λ i. min (c.doze_due.ensures.capacity i) (c.doze_due.ensures.room i)) c.doze_due.ensures.awake c.self.invariant.0 c.self.invariant.1.0

@@ -1,4 +1,4 @@
-use Rattle.std.proofs.Common.{ℕ, sym, subst}
+use Rattle.std.proofs.Common.{sym, subst}
 use Rattle.mc_model.specs.synod.Lists.{In}
 use Rattle.node_parts.specs.Living.{IsNextBy, IsPassedBy, IsPassedIn}
 use Rattle.node_parts.specs.Reaching.{named_in}

@@ -12,7 +12,7 @@ use Rattle.node_parts.proofs.message_shelf.MessageShelf.renew.Goals as goal
 pub invariant_of-self : goal.invariant_of-self
 invariant_of-self c =
     let s = c.self.inside in
-    let room = min (vec_capacity s.live) (vec_capacity s.awake.ids) in
+    let room = min s.live.width (vec_capacity s.awake.ids) in
     let f = renewed c.args.me in (
       subst (λ (es : List (ℕ × Filed)). AreListed es (ids_of s.live.items) room) (sym c.for_each.ensures.entries)
           (listed_visited f s.shelf.entries (ids_of s.live.items) room (renewed_settled c.args.me) c.self.invariant.0),

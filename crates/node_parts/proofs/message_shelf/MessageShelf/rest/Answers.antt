@@ -21,7 +21,7 @@ all_rested c =
     c.drop_rounds.ensures.entries
     ∙ ap (λ (ids : List ℕ). dropped ids s.shelf.entries) c.deref.ensures.value
     ∙ all_dropped s.awake.ids.items s.shelf.entries (rise_of (keys_of s.shelf.entries) c.ascends.ensures)
-    (runs_among s.shelf.entries s.live.items s.awake.ids.items (min (vec_capacity s.live) (vec_capacity s.awake.ids)) s.awake.until s.noted
+    (runs_among s.shelf.entries s.live.items s.awake.ids.items (min s.live.width (vec_capacity s.awake.ids)) s.awake.until s.noted
     c.self.invariant.0 c.self.invariant.1.0 c.self.invariant.1.1)
 
 pub unlist-requires : goal.unlist-requires
@@ -34,7 +34,7 @@ pub returns-clause-listings : goal.returns-clause-listings
 returns-clause-listings c =
     let s = c.self.inside in
     (λ i. min (c.unlist.ensures.capacity i) (c.unlist.ensures.room i) - length (all_rested c i))
-    ∙ ap (λ (n : ℕ). min (vec_capacity s.live) (vec_capacity s.awake.ids) - n) (visited_length rested s.shelf.entries)
+    ∙ ap (λ (n : ℕ). min s.live.width (vec_capacity s.awake.ids) - n) (visited_length rested s.shelf.entries)
     ∙ ap (λ (l : Listed). l.listings) c.self.view_is
 
 pub invariant_of-self : goal.invariant_of-self
@@ -42,7 +42,7 @@ invariant_of-self c =
     let s = c.self.inside in
     let entries = s.shelf.entries in
     let rest = map rested_entry entries in
-    let room = min (vec_capacity s.live) (vec_capacity s.awake.ids) in
+    let room = min s.live.width (vec_capacity s.awake.ids) in
     let visited : c.drop_rounds.new.shelf.entries ≡ rest = all_rested c in
     let left : c.unlist.new.live.items ≡ filter (is_kept_listed rest) s.live.items =
     c.unlist.ensures.live ∙ ap (λ (es : List (ℕ × Filed)). filter (is_kept_listed es) s.live.items) visited in

@@ -1,7 +1,7 @@
-use Rattle.std.proofs.Common.{ap}
-use Rattle.shelf.specs.Places.{entries_of}
-use Rattle.shelf.proofs.Entries.{none_ascends}
+use Rattle.std.proofs.Common.{length, ap, inl}
+use Rattle.shelf.specs.Parted.{all_in}
+use Rattle.shelf.proofs.Shelving.{empty_in_parts}
 use Rattle.shelf.proofs.shelf.Shelf.empty.Goals as goal
 
 pub invariant_of-result : goal.invariant_of-result
-invariant_of-result g c = none_ascends _ (ap entries_of c.new.ensures.items)
+invariant_of-result g c = empty_in_parts c.new.result.items (inl (ap length c.new.ensures.items)) (ap all_in c.new.ensures.items)
