@@ -11,10 +11,9 @@ use config_warnings::warnings;
 use node_stores::NodeStore;
 use server::{Defaults, Entrance, Life, Loaded, Node, StartFault, begin_nodes, load_nodes};
 use std::alloc::{AllocError, Global};
-use std::fs;
-use std::io;
 use std::net::{Net, SocketAddr, SocketAddrV4, TcpListener, TcpStream};
 use std::rt::Files;
+use std::{fs, io};
 use toml::Value;
 
 /// A configuration, with the text that was read.

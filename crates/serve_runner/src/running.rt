@@ -15,8 +15,8 @@ use cluster_stores::open_stores;
 use config::{Config, NodeConfig};
 use node_stores::NodeStore;
 use server::{
-    Beginning, Defaults, Doors, Ending, LAST_INCARNATION, Life, MOST_SEATS, Served, Settings,
-    Stop, serve, stamp_now,
+    Beginning, Defaults, Doors, Ending, LAST_INCARNATION, Life, MOST_SEATS, Served, Settings, Stop,
+    serve, stamp_now,
 };
 use std::alloc::{AllocError, Global};
 use std::marker::Brand;

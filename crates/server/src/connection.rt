@@ -250,9 +250,11 @@ impl Connection {
             self.changed
                 .wait_while(rt, outbox, |outbox| !outbox.is_shut()),
         );
-        let is_through = self
-            .through
-            .wait_until(rt, LAST_PATIENCE, &|| self.is_through.load(Ordering::SeqCst));
+        let is_through = self.through.wait_until(
+            rt,
+            LAST_PATIENCE,
+            &|| self.is_through.load(Ordering::SeqCst),
+        );
         if !is_through {
             self.lose(rt, Reason::Deaf);
         }

@@ -147,9 +147,11 @@ fn end_life<S: StableStore, L: Begins, R: Wait + Eprint + Clock>(shift: &Shift<'
 fn end_sessions<S: StableStore, L: Begins, R: Wait + Eprint + Clock>(shift: &Shift<'_, S, L, R>) {
     let station = shift.station;
     station.site.lock(shift.rt).stop_reading();
-    let _ = station
-        .news
-        .wait_until(shift.rt, PATIENCE, &|| station.site.lock(shift.rt).is_empty());
+    let _ = station.news.wait_until(
+        shift.rt,
+        PATIENCE,
+        &|| station.site.lock(shift.rt).is_empty(),
+    );
     shift
         .station
         .site
@@ -211,11 +213,9 @@ fn tell_anew<R: Wait + Eprint + Clock>(rt: &R, house: &House, station: &Station)
 
 /// Waits for a second; whether the server and the part of the journal still go on.
 fn waits<R: Wait + Clock>(rt: &R, house: &House, station: &Station) -> bool {
-    !station.news.wait_until(
-        rt,
-        PATIENCE,
-        &|| house.pace.rests() || house.is_over(rt),
-    )
+    !station
+        .news
+        .wait_until(rt, PATIENCE, &|| house.pace.rests() || house.is_over(rt))
 }
 
 /// Starts a node anew.

@@ -41,7 +41,8 @@ impl Pace {
     /// The entry with this number was made; whether no delivery is to be begun from now on, as before it some were.
     pub(crate) fn note(&self, number: u64) -> bool {
         let before = self.entries.fetch_max(number, Ordering::SeqCst);
-        self.many.is_some_and(|many| before < many && number >= many)
+        self.many
+            .is_some_and(|many| before < many && number >= many)
     }
 
     /// Whether no delivery is to be begun.

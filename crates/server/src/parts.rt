@@ -189,7 +189,10 @@ fn watch<S: StableStore, L: Begins, R: Wait + Eprint + Clock>(rt: &R, shared: &S
 /// Tells want of memory, and counts, if they were told a minute ago.
 fn tell<R: Wait + Eprint + Clock>(rt: &R, house: &House) {
     house.tell_wants(rt);
-    if house.counters.are_due(milliseconds_since(rt, &house.begun), COUNTS_GAP) {
+    if house
+        .counters
+        .are_due(milliseconds_since(rt, &house.begun), COUNTS_GAP)
+    {
         house.tell_counts(rt);
     }
 }
