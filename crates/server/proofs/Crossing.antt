@@ -7,13 +7,13 @@ use Rattle.std.proofs.alloc.Global.TheSendSync as heap
 use Rattle.std.specs.declared.sync.ledger.Ledger as Ledger
 use Rattle.stable_store.specs.declared.store.StableStore as Store
 use Rattle.node_workers.proofs.LifeSendSync as life
+use Rattle.serve_sessions.proofs.ArrivalSendSync as arrival
+use Rattle.serve_sessions.proofs.ConnectionSendSync as connection
+use Rattle.serve_nodes.proofs.HouseSendSync as house
+use Rattle.serve_nodes.proofs.StationSendSync as station
 use Rattle.node_workers.specs.Begins as Begins
 use Rattle.node_workers.proofs.Crossing.{cluster_sync}
-use Rattle.server.proofs.connection.Connection.TheSendSync as connection
-use Rattle.server.proofs.house.House.TheSendSync as house
 use Rattle.server.proofs.seat_pool.SeatPool.TheSendSync as pool
-use Rattle.server.proofs.starting.Arrival.TheSendSync as arrival
-use Rattle.server.proofs.station.Station.TheSendSync as station
 use Rattle.server.specs.contracts.shared.Shared as Shared
 
 -- what a search takes, besides, for the rest that a thread is handed

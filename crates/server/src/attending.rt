@@ -1,13 +1,11 @@
 //! Who serves a session, in a life of its node.
 
-use crate::connection::Connection;
 use crate::hearing::{Heeded, heed, heed_wrong_length};
-use crate::inbox::Next;
-use crate::notice::{Notice, Reason};
 use crate::shift::Shift;
-use crate::starting::{Arrival, start_workers};
+use crate::starting::start_workers;
 use crate::trouble::Trouble;
 use node_workers::{Begins, Seat};
+use serve_sessions::{Arrival, Connection, Next, Notice, Reason};
 use stable_store::StableStore;
 use std::rt::Clock;
 use std::sync::Wait;

@@ -1,12 +1,11 @@
 //! The packets of a node.
 
-use crate::ending::Ending;
-use crate::shift::Shift;
-use crate::station::Wake;
+use crate::shift::{Shift, ring};
 use crate::trouble::Trouble;
 use mc_types::{Moment, MsgId};
 use node_workers::{Action, Begins, Packet, Seat, Slip};
 use pdu_codec::SystemId;
+use serve_nodes::{Ending, Wake};
 use stable_store::StableStore;
 use std::rt::Clock;
 use std::sync::Wait;
@@ -73,7 +72,7 @@ fn carry<S: StableStore, L: Begins, R: Wait + Eprint + Clock>(
     let node = shift.node();
     let packet = Action::Deliver { number, node };
     let slip = shift.shared.cluster.act(shift.rt, seat, packet)?;
-    shift.shared.house.ring(shift.rt, &slip);
+    ring(shift.rt, &shift.shared.house, &slip);
     let outputs = slip.outputs();
     let chosen = chosen_by(&slip);
     if outputs.replies.is_empty() && outputs.receipts.is_empty() && chosen.is_none() {

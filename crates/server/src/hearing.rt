@@ -1,13 +1,13 @@
 //! What comes of a PDU of an ESME.
 
-use crate::notice::{Name, Notice, is_bind};
-use crate::shift::Shift;
-use crate::site::Site;
+use crate::shift::{Shift, ring};
 use crate::trouble::Trouble;
 use desk::Request;
 use esme_service::{Asked, Heard};
 use node_workers::{Action, Begins, Seat};
 use pdu_tables::Status;
+use serve_nodes::Site;
+use serve_sessions::{Name, Notice, is_bind};
 use sessions::{Delivery, Outgoing, Requested, Response};
 use stable_store::StableStore;
 use std::alloc::AllocError;
@@ -223,7 +223,7 @@ fn handed_in<S: StableStore, L: Begins, R: Wait + Eprint + Clock>(
         request,
     };
     let slip = shift.shared.cluster.act(shift.rt, seat, action)?;
-    shift.shared.house.ring(shift.rt, &slip);
+    ring(shift.rt, &shift.shared.house, &slip);
     let outputs = slip.outputs();
     site.service.wait(number, asked, outputs.ticket);
     if asked.requested == Requested::SubmitSm {

@@ -1,10 +1,8 @@
 //! Where ESMEs connect.
 
-use crate::connection::{Connection, Wire};
-use crate::house::House;
-use crate::notice::{Notice, Reason};
-use crate::starting::{Arrival, start_reader, start_writer};
-use crate::station::Station;
+use crate::starting::{start_reader, start_writer};
+use serve_nodes::{House, Station};
+use serve_sessions::{Arrival, Connection, Notice, Reason, Wire};
 use std::alloc::AllocError;
 use std::io::ErrorKind;
 use std::net::{SocketAddr, TcpStream};

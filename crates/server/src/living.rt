@@ -1,15 +1,13 @@
 //! A node of the server, in one life after another.
 
-use crate::ending::Ending;
-use crate::house::House;
-use crate::notice::Reason;
 use crate::shared::Shared;
-use crate::shift::{ALL_LOOKS, Shift};
+use crate::shift::{ALL_LOOKS, Shift, ring};
 use crate::starting::{start_attendant, start_packets, start_ticks};
-use crate::station::{Station, Wake};
 use crate::ticking::tick_first;
 use mc_types::MsgId;
 use node_workers::{Begins, Life, Refusal};
+use serve_nodes::{Ending, House, Station, Wake};
+use serve_sessions::Reason;
 use stable_store::StableStore;
 use std::rt::Clock;
 use std::sync::Wait;
@@ -232,7 +230,7 @@ fn start_anew<S: StableStore, L: Begins, R: Wait + Eprint + Clock>(
     shared.seats.give_back(rt, seat);
     match started {
         Ok((slip, life)) => {
-            shared.house.ring(rt, &slip);
+            ring(rt, &shared.house, &slip);
             drop(slip);
             begin_anew(rt, shared, station, &life);
             Started::Begun(life)

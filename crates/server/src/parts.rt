@@ -5,14 +5,13 @@ ghost use Rattle.node_workers.specs.Closing.{IsClosed};
 ghost use Rattle.node_workers.specs.GoingOn.{AreSound, GoesOn};
 ghost use Rattle.node_workers.specs.Histories.{ClosesParts};
 
-use crate::clock::{Mark, milliseconds, milliseconds_since};
-use crate::ending::Ending;
-use crate::house::House;
 use crate::seat_pool::SeatPool;
 use crate::serving::Served;
 use crate::shared::Shared;
 use crate::starting::start_nodes;
 use node_workers::{Begins, Cluster, Journal, MOST_SEATS, Seat, closed_journals_go_on};
+use serve_nodes::{Ending, House};
+use serve_sessions::{Mark, milliseconds, milliseconds_since};
 use stable_store::StableStore;
 use std::marker::Brand;
 use std::rt::Clock;

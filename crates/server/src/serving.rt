@@ -5,55 +5,17 @@ ghost use Rattle.node_workers.specs.Numbers.{none_sent};
 ghost use Rattle.node_workers.specs.Actions.{AllBegin};
 ghost use Rattle.node_workers.specs.Histories.{ClosesKept, ClosesParts};
 
-use crate::bell::Bell;
-use crate::clock::{milliseconds, now};
-use crate::ending::{End, Ending};
-use crate::entrance::Entrance;
-use crate::house::{Counters, House};
-use crate::log::Log;
-use crate::pace::Pace;
 use crate::parts::serve_parts;
-use crate::rounds::Rounds;
-use crate::signal::Signal;
-use crate::site::Site;
 use crate::starting::{start_listeners, start_log};
-use crate::station::{Anew, Station};
-use crate::stop::Stop;
-use config::{Config, Own};
-use connection_parts::Timepiece;
-use crossbeam_channel::unbounded;
-use mc_types::NodeNo;
-use node_workers::{Begins, Cluster, Journal, Life, Node, all_parts_are_one};
+use node_workers::{Begins, Cluster, Journal, Node, all_parts_are_one};
+use serve_nodes::{Doors, Ending, House, Settings, house_of};
 use stable_store::StableStore;
 use std::alloc::{AllocError, Global};
-use std::collections::VecDeque;
 use std::rt::Clock;
-use std::sync::atomic::{AtomicBool, AtomicU64};
 use std::sync::ledger::Blank;
-use std::sync::{Arc, Mutex, Wait};
+use std::sync::{Arc, Wait};
 use std::thread;
 use std::thread::Threads;
-use std::time::Instant;
-
-/// How the server is to be run.
-#[derive(Drop)]
-pub struct Settings {
-    /// Accounts, routes, and after how many sessions it ends.
-    pub config: Config,
-    /// Its limits.
-    pub own: Own,
-    /// Whether it tells nothing but what must be told.
-    pub is_quiet: bool,
-    /// What it is asked to end by.
-    pub stop: Arc<Stop>,
-}
-
-/// Where its nodes listen, that of node 1 first, and their lives.
-#[derive(Drop)]
-pub struct Doors {
-    pub entrances: Vec<Entrance>,
-    pub lives: Vec<Life>,
-}
 
 /// What its nodes begin with: a ledger of slips, and the nodes, node 1 first.
 #[derive(Drop)]
@@ -102,38 +64,6 @@ pub fn serve<
     Ok(serve_over(rt, &house, cluster))
 }
 
-/// The server with these doors and settings.
-fn house_of<R: Clock>(
-    rt: &R,
-    alloc: Global,
-    doors: Doors,
-    settings: Settings,
-) -> Result<House, AllocError>
-    ensures config { IfOk result (λ house. house.config ≡ settings.config) }
-    ensures limits { IfOk result (λ house. house.own ≡ settings.own) }
-{
-    let Doors { entrances, lives } = doors;
-    let Settings {
-        config,
-        own,
-        is_quiet,
-        stop,
-    } = settings;
-    Ok(House {
-        alloc,
-        config,
-        own,
-        stations: stations_of(rt, alloc, entrances, lives)?,
-        log: Log::make(alloc, is_quiet),
-        end: End::none(),
-        stop,
-        counters: Counters::none(),
-        pace: Pace::of(own),
-        begun: Instant::now(rt).ok(),
-        timepiece: Mutex::new(Timepiece::make(0, milliseconds(rt))),
-    })
-}
-
 /// Serves over a cluster, with threads that listen, read and write until the server ends.
 fn serve_over<
     S: StableStore + Send + Sync + Drop,
@@ -156,46 +86,4 @@ fn serve_over<
             served
         },
     )
-}
-
-/// The stations of the nodes that listen here and have these lives, that of node 1 first.
-fn stations_of<R: Clock>(
-    rt: &R,
-    alloc: Global,
-    entrances: Vec<Entrance>,
-    lives: Vec<Life>,
-) -> Result<Vec<Station>, AllocError> {
-    let mut stations = Vec::with_capacity(alloc, entrances.len())?;
-    let mut entrances = VecDeque::from_vec(entrances);
-    let mut lives = VecDeque::from_vec(lives);
-    while let Some(entrance) = entrances.pop_front() {
-        let Ok(node) = NodeNo::make(number_of(stations.len())) else {
-            drop(entrance);
-            break;
-        };
-        let (wakes, woken) = unbounded(alloc)?;
-        stations.push(Station {
-            node,
-            entrance,
-            site: Mutex::new(Site::none(alloc, now(rt))),
-            wakes,
-            woken,
-            next: AtomicU64::new(1),
-            anew: Anew::none(),
-            has_ticked: AtomicBool::new(false),
-            has_begun: AtomicBool::new(false),
-            rounds: Rounds::none(),
-            bell: Bell::silent(),
-            news: Signal::silent(),
-            is_anew: AtomicBool::new(false),
-            serials: AtomicU64::new(0),
-            life: Mutex::new(lives.pop_front()),
-        })?;
-    }
-    Ok(stations)
-}
-
-/// The number of the node at a place.
-fn number_of(place: usize) -> u8 {
-    place.saturating_add(1).min(u8::MAX as usize) as u8
 }

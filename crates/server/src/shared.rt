@@ -1,8 +1,8 @@
 //! What the threads of the nodes share in a part of the journal.
 
-use crate::house::House;
 use crate::seat_pool::SeatPool;
 use node_workers::{Begins, Cluster};
+use serve_nodes::House;
 use stable_store::StableStore;
 use std::sync::Arc;
 

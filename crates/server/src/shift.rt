@@ -1,14 +1,13 @@
 //! What the threads of a node share in one of its lives.
 
-use crate::ending::Ending;
-use crate::notice::{Notice, Whom};
 use crate::shared::Shared;
-use crate::site::Site;
-use crate::station::Station;
 use crate::trouble::Trouble;
 use mc_types::{MsgId, NodeNo};
-use node_workers::{Attempt, Begins, Life, Seat};
+use node_workers::{Attempt, Begins, Life, Seat, Slip};
+use serve_nodes::{Ending, House, Site, Station};
+use serve_sessions::{Notice, Whom};
 use stable_store::StableStore;
+use std::alloc::AllocError;
 use std::rt::Clock;
 use std::sync::Wait;
 
@@ -155,7 +154,12 @@ impl<S: StableStore, L: Begins, R: Wait + Eprint + Clock> Shift<'_, S, L, R> {
             return Ok(true);
         }
         match self.shared.cluster.attempt(self.rt, self.node(), id)? {
-            Some(attempt) => Ok(site.deliver(self.rt, &attempt)?),
+            Some(attempt) => Ok(site.deliver(
+                self.rt,
+                attempt.slot,
+                &attempt.account,
+                attempt.long,
+            )?),
             None => Ok(true),
         }
     }
@@ -169,7 +173,7 @@ impl<S: StableStore, L: Begins, R: Wait + Eprint + Clock> Shift<'_, S, L, R> {
             return Ok(());
         };
         if self.holds() || site.lanes.holds(&attempt.account, attempt.long) {
-            site.keep(attempt)?;
+            keep(site, attempt)?;
             return Ok(());
         }
         self.offer(site, attempt)
@@ -179,11 +183,11 @@ impl<S: StableStore, L: Begins, R: Wait + Eprint + Clock> Shift<'_, S, L, R> {
     fn offer(&self, site: &mut Site, attempt: Attempt) -> Result<(), Trouble> {
         if site.lanes.holds(&attempt.account, !attempt.long) {
             let place = site.lanes.place_of(&attempt.account);
-            site.keep(attempt)?;
+            keep(site, attempt)?;
             return self.feed_at(site, place);
         }
-        if !site.deliver(self.rt, &attempt)? {
-            site.keep(attempt)?;
+        if !site.deliver(self.rt, attempt.slot, &attempt.account, attempt.long)? {
+            keep(site, attempt)?;
         }
         Ok(())
     }
@@ -210,4 +214,20 @@ impl<S: StableStore, L: Begins, R: Wait + Eprint + Clock> Shift<'_, S, L, R> {
         self.hear_of(site, id)?;
         Ok(true)
     }
+}
+
+/// An attempt that may be granted waits for a worker. An `Err` is want of memory.
+fn keep(site: &mut Site, attempt: Attempt) -> Result<(), AllocError> {
+    let Attempt {
+        slot,
+        account,
+        long,
+    } = attempt;
+    site.keep(slot.id, account, long)
+}
+
+/// A step was taken: it counts in the part of the journal, and the packets that it sent are handed in to all nodes.
+pub(crate) fn ring<R: Wait>(rt: &R, house: &House, slip: &Slip) {
+    let sent = slip.outputs().packets.len() as u64;
+    house.ring(rt, slip.number(), slip.packets_before(), sent);
 }

@@ -2,19 +2,15 @@
 
 use crate::attending::{attend, end};
 use crate::carrying::carry_on;
-use crate::connection::{Connection, WORKERS};
-use crate::ending::Ending;
-use crate::house::House;
 use crate::listening::listen_on;
 use crate::living::live_on;
-use crate::notice::Reason;
-use crate::reading::read_all;
 use crate::shared::Shared;
 use crate::shift::Shift;
-use crate::station::Station;
 use crate::ticking::tick_on;
 use crate::working::work;
 use node_workers::Begins;
+use serve_nodes::{Ending, House, Station};
+use serve_sessions::{Arrival, Connection, Reason, WORKERS, read_all};
 use stable_store::StableStore;
 use std::alloc::{AllocError, Global};
 use std::rt::Clock;
@@ -155,13 +151,6 @@ pub(crate) fn start_packets<
         Ok(_) => {}
         Err(_) => shift.shared.house.end_by(shift.rt, Ending::Threads),
     }
-}
-
-/// A connection, and the number of its session.
-#[derive(Drop)]
-pub(crate) struct Arrival {
-    pub(crate) connection: Arc<Connection>,
-    pub(crate) number: u8,
 }
 
 /// Starts the thread that serves the session of a connection. If none can be started, the session ends.

@@ -1,12 +1,10 @@
 //! The ticks of a node.
 
-use crate::backlog::Naming;
-use crate::beat::Beat;
-use crate::clock::Mark;
-use crate::ending::Ending;
-use crate::shift::{FEW_LOOKS, Shift};
+use crate::shift::{FEW_LOOKS, Shift, ring};
 use crate::trouble::Trouble;
 use node_workers::{Action, Begins, Seat};
+use serve_nodes::{Beat, Ending, Naming};
+use serve_sessions::Mark;
 use stable_store::StableStore;
 use std::rt::Clock;
 use std::sync::Wait;
@@ -238,7 +236,7 @@ fn tick<S: StableStore, L: Begins, R: Wait + Eprint + Clock>(
         reach,
     };
     let slip = shift.shared.cluster.act(shift.rt, seat, tick)?;
-    shift.shared.house.ring(shift.rt, &slip);
+    ring(shift.rt, &shift.shared.house, &slip);
     shift.station.has_ticked.store(true, Ordering::SeqCst);
     shift.station.rounds.begin(shift.shared.house.newest());
     site.pass(moment);

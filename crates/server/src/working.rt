@@ -2,15 +2,11 @@
 
 ghost use Rattle.std.specs.Prelude.{◌≡◌};
 
-use crate::berth::Berth;
-use crate::connection::Connection;
-use crate::gate::BerthGate;
-use crate::notice::Reason;
-use crate::shift::Shift;
-use crate::starting::Arrival;
+use crate::shift::{Shift, ring};
 use crate::trouble::Trouble;
 use connection_parts::Job;
 use node_workers::{Begins, Heard, Home, Seat, tried};
+use serve_sessions::{Arrival, Berth, BerthGate, Connection, Reason};
 use stable_store::StableStore;
 use std::rt::Clock;
 use std::sync::Wait;
@@ -64,19 +60,13 @@ fn deliver<'x, S: StableStore, L: Begins, R: Wait + Eprint + Clock>(
     seat: &mut Seat<L>,
     job: &Job,
 ) -> Result<(), Trouble> {
-    let mut gate = BerthGate {
-        alloc: shift.shared.house.alloc,
-        connection,
-        berth,
-        job: *job,
-        is_sent: false,
-    };
+    let mut gate = BerthGate::over(shift.shared.house.alloc, connection, berth, *job);
     let home = Home {
         cluster: &shift.shared.cluster,
         life: shift.life,
     };
     let tried = tried(shift.rt, &home, seat, &mut gate, heard_in(job));
-    let is_sent = gate.is_sent;
+    let is_sent = gate.has_sent();
     berth.end(shift.rt);
     let fed = free(shift, connection, job, is_sent);
     if tried? {
@@ -122,6 +112,6 @@ fn ring_last<S: StableStore, L: Begins, R: Wait + Eprint + Clock>(
     seat: &Seat<L>,
 ) {
     if let Some(slip) = seat.slips().last() {
-        shift.shared.house.ring(shift.rt, slip);
+        ring(shift.rt, &shift.shared.house, slip);
     }
 }

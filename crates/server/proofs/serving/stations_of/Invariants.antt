@@ -1,5 +1,0 @@
-use Rattle.std.proofs.Common.{length}
-use Rattle.server.proofs.serving.stations_of.Given as goal
-
-abbrev pub decreases-loop-entrance : goal.decreases-loop-entrance
-decreases-loop-entrance g l = length l.entrances.items

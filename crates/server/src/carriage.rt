@@ -1,8 +1,0 @@
-//! A delivery that is under way.
-
-/// Where a delivery is under way: over the session with which number, and in which worker's place there.
-#[derive(Clone, Copy, Debug, PartialEq, Eq)]
-pub(crate) struct Carriage {
-    pub(crate) number: u8,
-    pub(crate) place: usize,
-}
