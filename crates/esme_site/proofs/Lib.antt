@@ -1,0 +1,4 @@
+pub mod Settling
+pub mod Replies
+pub mod Receipts
+pub mod GivenOut
