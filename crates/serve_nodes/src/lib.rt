@@ -7,6 +7,7 @@ mod bell;
 mod carriage;
 mod doors;
 mod ending;
+mod frames;
 mod house;
 mod lanes;
 mod opening;

@@ -1,15 +1,20 @@
 //! What stands at a node of a server: the service of its ESMEs, and their connections.
 
-ghost use Rattle.std.specs.Prelude.{◌≡◌, max, None, false, OnOk};
+ghost use Rattle.std.specs.Prelude.{◌≡◌, map, max, None, false, OnOk};
+ghost use Rattle.node_model.specs.Reported.{receipt_of};
+ghost use Rattle.waiting_requests.specs.Replying.{reply_given};
 ghost use Rattle.esme_service.specs.Sessions.{put_at, session_in, without_session};
+ghost use Rattle.esme_site.specs.Puts.{given_out, mail_in};
+ghost use Rattle.serve_nodes.specs.Frames.{Puts};
 
 use crate::backlog::{Backlog, Naming};
 use crate::carriage::Carriage;
+use crate::frames::Frames;
 use crate::lanes::Lanes;
 use crate::presence::Presence;
 use connection_parts::{Frame, Job, Tally};
-use esme_service::{HeardPdu, Sending, Service};
-use fate_chain::Chain;
+use esme_service::{HeardPdu, Service};
+use esme_site::{post_for, post_for_all, reply_all, tell};
 use mc_types::{Moment, MsgId, Slot};
 use node_core::{MayBegin, MessageIds, Outputs, Reach};
 use pdu_codec::SystemId;
@@ -19,16 +24,13 @@ use std::alloc::{AllocError, Global};
 use std::collections::BTreeMap;
 use std::rt::Clock;
 use std::sync::{Arc, Wait};
-use waiting_requests::{Answer, Reply};
+use waiting_requests::Reply;
 
 /// How long a node with few message_ids left waits for a quiet moment in which to start anew, in milliseconds.
 const PATIENCE: u64 = 30_000;
 
 /// For how long it begins no attempts, so that it comes to rest, in milliseconds.
 const HOLD: u64 = 2_000;
-
-/// How many deliver_sm go out for an account one after another at most: more than all windows of a node have places.
-const MOST_PUSHED: usize = 1_000;
 
 /// What stands at a node of a server: the service of its ESMEs, their connections by the numbers of their sessions, which deliveries are under way, by the
 /// numbers of their messages, and what went on.
@@ -165,101 +167,66 @@ impl Site {
         Ok(())
     }
 
-    /// What the service sends goes out. An `Err` is want of memory.
-    fn send<R: Wait>(&self, rt: &R, sending: &Sending) -> Result<(), AllocError> {
-        if let Some(frame) = Frame::of_sending(self.alloc, sending)? {
+    /// What was put goes onto the connections of its sessions, those are lost for which there was no memory, and it is counted.
+    fn post_all<R: Wait>(&mut self, rt: &R, frames: Frames) {
+        let Frames {
+            frames,
+            lost,
+            receipts,
+            fates,
+            ..
+        } = frames;
+        self.tally.receipts = self.tally.receipts.saturating_add(receipts);
+        self.tally.fates = self.tally.fates.saturating_add(fates);
+        for frame in frames {
             self.post(rt, frame);
         }
-        Ok(())
+        self.lose_those(rt, &lost);
     }
 
-    /// What a step of the node gave out goes out: replies, and then receipts. An `Err` is want of memory: whose reply then does not go out has lost its
-    /// connection.
-    pub fn tell<R: Wait>(&mut self, rt: &R, outputs: &Outputs) -> Result<(), AllocError> {
-        let replied = self.reply_all(rt, &outputs.replies);
-        let reported = self.report_all(rt, &outputs.receipts);
-        replied?;
-        reported
-    }
-
-    /// Replies go out. An `Err` is want of memory for one of them, whose session is lost; the others went out.
-    fn reply_all<R: Wait>(&mut self, rt: &R, replies: &[Reply]) -> Result<(), AllocError> {
-        let mut replied = Ok(());
-        for reply in replies {
-            match reply.copy() {
-                Ok(copy) => self.reply(rt, copy),
-                Err(fault) => {
-                    self.lose_holder(rt, reply.ticket());
-                    replied = Err(fault);
-                }
+    /// The connections of these sessions are lost, since there was no memory for what they were to get.
+    fn lose_those<R: Wait>(&self, rt: &R, lost: &[bool]) {
+        for (number, connection) in &self.connections {
+            if lost.get(usize::from(*number)) == Some(&true) {
+                connection.lose(rt, Reason::NoMemory);
             }
         }
-        replied
     }
 
-    /// The session is lost that holds a ticket, if one does: there is no memory for its reply.
-    fn lose_holder<R: Wait>(&self, rt: &R, ticket: u64) {
-        for (number, session) in self.service.sessions() {
-            if session
-                .requests()
-                .iter()
-                .any(|request| request.ticket == ticket)
-            {
-                self.lose(rt, *number, Reason::NoMemory);
-                return;
-            }
-        }
+    /// What a step of the node gave out goes out: replies, and then receipts. An `Err` is want of memory: whose reply or receipt was not put has lost its
+    /// connection, or a receipt does not come to wait.
+    pub fn tell<R: Wait>(&mut self, rt: &R, outputs: &Outputs) -> Result<(), AllocError>
+        ensures { OnOk result (mail_in self.new.service ≡
+            (given_out self.old.clock self.old.service (map reply_given outputs.now.replies.items) (map receipt_of outputs.now.receipts.items)).next) }
+    {
+        let mut frames = Frames::none(self.alloc);
+        let told = self.put_told(&mut frames, outputs);
+        self.post_all(rt, frames);
+        told
+    }
+
+    /// What a step of the node gave out is put, one frame behind the other.
+    fn put_told(&mut self, frames: &mut Frames, outputs: &Outputs) -> Result<(), AllocError>
+        ensures mail { OnOk result (mail_in self.new.service ≡
+            (given_out self.old.clock self.old.service (map reply_given outputs.now.replies.items) (map receipt_of outputs.now.receipts.items)).next) }
+        ensures put { OnOk result (Puts frames.old.frames.items
+            (given_out self.old.clock self.old.service (map reply_given outputs.now.replies.items) (map receipt_of outputs.now.receipts.items)).prints
+            frames.new.frames.items) }
+    {
+        tell(
+            &mut self.service,
+            frames,
+            self.clock,
+            &outputs.replies,
+            &outputs.receipts,
+        )
     }
 
     /// A reply goes out on the session that holds its ticket. That is lost if there is no memory for it.
     fn reply<R: Wait>(&mut self, rt: &R, reply: Reply) {
-        self.tally.fates = self.tally.fates.saturating_add(final_states(&reply));
-        if let Some(sending) = self.service.reply(reply)
-            && self.send(rt, &sending).is_err()
-        {
-            self.lose(rt, sending.number(), Reason::NoMemory);
-        }
-    }
-
-    /// Receipts are due. An `Err` is want of memory for one of them; the others are told.
-    fn report_all<R: Wait>(&mut self, rt: &R, chains: &[Chain]) -> Result<(), AllocError> {
-        let mut reported = Ok(());
-        for chain in chains {
-            let is_told = match chain.copy() {
-                Ok(copy) => self.report(rt, copy),
-                Err(fault) => Err(fault),
-            };
-            if let Err(fault) = is_told {
-                reported = Err(fault);
-            }
-        }
-        reported
-    }
-
-    /// A receipt is due: it waits for its account, and goes out if it can.
-    fn report<R: Wait>(&mut self, rt: &R, chain: Chain) -> Result<(), AllocError> {
-        let account = match chain.submission().submitter.copy() {
-            Ok(account) => account,
-            Err(fault) => {
-                drop(chain);
-                return Err(fault);
-            }
-        };
-        self.service.post(chain)?;
-        self.post_for(rt, &account)
-    }
-
-    /// The receipts that wait for an account go out, as far as its sessions take them. An `Err` is want of memory.
-    fn post_for<R: Wait>(&mut self, rt: &R, account: &SystemId) -> Result<(), AllocError> {
-        for _ in 0..MOST_PUSHED {
-            let Some(sending) = self.service.next_receipt(account, self.clock) else {
-                return Ok(());
-            };
-            self.tally.receipts = self.tally.receipts.saturating_add(1);
-            self.tally.fates = self.tally.fates.saturating_add(1);
-            self.send(rt, &sending)?;
-        }
-        Ok(())
+        let mut frames = Frames::none(self.alloc);
+        let _ = reply_all(&mut self.service, &mut frames, &[reply]);
+        self.post_all(rt, frames);
     }
 
     /// The receipts that wait for the account of a session go out. An `Err` is want of memory.
@@ -271,15 +238,18 @@ impl Site {
             return Ok(());
         };
         let account = account.copy()?;
-        self.post_for(rt, &account)
+        let mut frames = Frames::none(self.alloc);
+        let posted = post_for(&mut self.service, &mut frames, self.clock, &account);
+        self.post_all(rt, frames);
+        posted
     }
 
     /// The receipts that wait for these accounts go out. An `Err` is want of memory.
     fn post_for_all<R: Wait>(&mut self, rt: &R, accounts: &[SystemId]) -> Result<(), AllocError> {
-        for account in accounts {
-            self.post_for(rt, account)?;
-        }
-        Ok(())
+        let mut frames = Frames::none(self.alloc);
+        let posted = post_for_all(&mut self.service, &mut frames, self.clock, accounts);
+        self.post_all(rt, frames);
+        posted
     }
 
     // Attempts.
@@ -596,13 +566,6 @@ impl Site {
         None
     }
 
-    /// The connection of a session is lost, for this reason, if there is one.
-    fn lose<R: Wait>(&self, rt: &R, number: u8, reason: Reason) {
-        if let Some(connection) = self.connections.get(&number) {
-            connection.lose(rt, reason);
-        }
-    }
-
     /// Whether a request or a delivery waits, or an attempt for a worker.
     pub fn is_busy(&self) -> bool {
         self.carries_some() || self.waiting() > 0 || !self.lanes.is_empty()
@@ -641,14 +604,6 @@ impl Site {
             waiting = waiting.saturating_add(session.requests().len());
         }
         waiting
-    }
-}
-
-/// How many final states a reply tells.
-fn final_states(reply: &Reply) -> u64 {
-    match reply.answer() {
-        Answer::Shown(chain) | Answer::Removed(chain) if chain.fate().is_some() => 1,
-        _ => 0,
     }
 }
 
