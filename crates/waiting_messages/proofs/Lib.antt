@@ -1,0 +1,3 @@
+pub mod Standing
+pub mod Spreading
+pub mod Remembering

@@ -1,0 +1,29 @@
+-- At which places an account is up.
+use Rattle.std.proofs.Common.{◌≡◌, ℕ, ◌+◌, ◌-◌, Bool, false, List, Some, None, Option, refl, map}
+use Rattle.std.proofs.Math.Nat.{add-sub_cancel}
+use Rattle.std.specs.Prelude.{slice_get, option_map}
+use Rattle.std.specs.Option.{option_map_or}
+use Rattle.std.specs.Global.{Vec}
+use Rattle.std.proofs.lemmas.Option.{slice_get-map}
+use Rattle.waiting_messages.specs.Accounts.{is_among}
+use Rattle.waiting_messages.specs.Spreads.{is_up_at}
+
+abbrev pub items_of : Vec (List ℕ) → List (List ℕ)
+items_of accounts = accounts.items
+
+pub up-map : (account : List ℕ) (found : Option (Vec (List ℕ))) →
+    option_map_or (is_among account) (option_map items_of found) false ≡ option_map_or (λ accounts. is_among account (items_of accounts)) found false
+up-map account None = refl
+up-map account (Some accounts) = refl
+
+pub up_there : (up : List (Vec (List ℕ))) (place : ℕ) (account : List ℕ) →
+    is_up_at (map items_of up) (place + 1) account ≡ option_map_or (λ accounts. is_among account (items_of accounts)) (slice_get up place) false
+up_there up place account = rw (add-sub_cancel place 1, slice_get-map items_of up place) (up-map account (slice_get up place))
+
+pub up_found : (up : List (Vec (List ℕ))) (place : ℕ) (account : List ℕ) (found : Vec (List ℕ)) → slice_get up place ≡ Some found →
+    is_among account found.items ≡ is_up_at (map items_of up) (place + 1) account
+up_found up place account found e = rw (up_there up place account, e) refl
+
+pub up_nowhere : (up : List (Vec (List ℕ))) (place : ℕ) (account : List ℕ) → slice_get up place ≡ None →
+    false ≡ is_up_at (map items_of up) (place + 1) account
+up_nowhere up place account e = rw (up_there up place account, e) refl

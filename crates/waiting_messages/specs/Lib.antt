@@ -1,0 +1,4 @@
+pub mod Accounts
+pub mod Spreads
+pub mod Presences
+pub mod Lanes
