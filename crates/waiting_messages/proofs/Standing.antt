@@ -100,7 +100,7 @@ times-tidy q (lane ∷ lanes) = times-kept q lane (is_empty lane) refl (filter (
 abbrev pub Once : (ℕ → Bool) → List Lane → Type 0
 Once has lanes = (q : ℕ) → times_in q lanes ≡ (if has q then 1 else 0)
 
-same_test : (id q : ℕ) → is_eq (nat_cmp id q) ≡ eqb id q
+pub same_test : (id q : ℕ) → is_eq (nat_cmp id q) ≡ eqb id q
 same_test id q = grind (arith, nat_tests)
 
 comes : (is : Bool) (old new : ℕ) (had has : Bool) → old ≡ cond had 1 0 → has ≡ cond is true had → new ≡ old + cond is 1 0 → (is ≡ true → had ≡ false) →
@@ -191,3 +191,7 @@ on_ok (Err x) P e h = absurd (cc)
 pub some_there : (none : Bool) (number : ℕ) → (IsTrue none ↔ (number ≡ 0)) → none ≡ false → eqb number 0 ≡ false
 some_there true number is e = absurd (cc)
 some_there false number is e = ⊎_elim (λ t. absurd (let no : false ≡ true = is.1 t.1 in cc)) (λ t. t.0) (eqb_tells number 0)
+
+pub is_on_err : {A E : Type 0} (r : Result A E) (P : Type 0) → P → OnErr r P
+is_on_err (Ok x) P h = tt
+is_on_err (Err x) P h = h

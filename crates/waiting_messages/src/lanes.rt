@@ -132,12 +132,7 @@ impl Lanes {
 
     /// A message waits behind the others of its kind for its account, unless it waits already. An `Err` is want of memory, and then it does not: nothing changes
     /// but that its account may have a lane in which none waits.
-    pub fn put(
-        &mut self,
-        account: SystemId,
-        long: bool,
-        id: MsgId,
-    ) -> Result<(), AllocError>
+    pub fn put(&mut self, account: SystemId, long: bool, id: MsgId) -> Result<(), AllocError>
         ensures put { OnOk result (self.new ≡ put account long id self.old) }
         ensures turns { OnErr result (self.new.turns ≡ self.old.turns) }
         ensures lanes { OnErr result ((self.new.lanes ≡ self.old.lanes) ⊎ (self.new.lanes ≡ with_lane account self.old.lanes)) }
@@ -208,11 +203,7 @@ fn line_up(
 }
 
 /// Where messages for this account wait, from now on. An `Err` is want of memory, and changes nothing.
-fn lane_for(
-    alloc: Global,
-    lanes: &mut Vec<Lane>,
-    account: SystemId,
-) -> Result<usize, AllocError>
+fn lane_for(alloc: Global, lanes: &mut Vec<Lane>, account: SystemId) -> Result<usize, AllocError>
     ensures place { IfOk result (λ place. place ≡ place_in account lanes.old.items) }
     ensures within { IfOk result (λ place. place < length lanes.new.items) }
     ensures lanes { OnOk result (lanes.new.items ≡ with_lane account lanes.old.items) }

@@ -2,11 +2,17 @@
 #![tactic(auto)]
 
 mod accounts;
+mod attempt;
+mod backlog;
 mod lane;
 mod lanes;
+mod naming;
 mod presence;
+mod queue;
 mod spread;
 
+pub use backlog::Backlog;
 pub use lanes::Lanes;
+pub use naming::Naming;
 pub use presence::Presence;
 pub use spread::Spread;

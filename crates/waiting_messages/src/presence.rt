@@ -66,12 +66,7 @@ impl Presence {
 
     /// A session of each of these accounts may receive at this moment, in seconds since 1970. Those are forgotten of which none could for so many seconds. An
     /// `Err` is want of memory: the first so many of them count as seen now, and the others do not.
-    pub fn see(
-        &mut self,
-        up: &[SystemId],
-        now: u32,
-        linger_seconds: u32,
-    ) -> Result<(), AllocError>
+    pub fn see(&mut self, up: &[SystemId], now: u32, linger_seconds: u32) -> Result<(), AllocError>
         ensures seen { OnOk result (self.new ≡ seen_all now (kept_in now linger_seconds self.old) up.now) }
         ensures some { OnErr result ((count : ℕ) × (count < length up.now) × (self.new ≡ seen_all now (kept_in now linger_seconds self.old) (take count up.now))) }
     {

@@ -9,7 +9,7 @@ use Rattle.waiting_messages.proofs.lanes.Lanes.put.Goals as goal
 pub invariant_of-self-then-is_err : goal.invariant_of-self-then-is_err
 invariant_of-self-then-is_err c =
     let absent : ltb 0 (times_in c.args.id c.self.inside.lanes.items) ≡ false =
-      ap (λ (l : Lanes). ltb 0 (times_in c.args.id l.lanes)) c.self.view_is ∙ sym c.has.ensures ∙ c.if-has.false in
+    ap (λ (l : Lanes). ltb 0 (times_in c.args.id l.lanes)) c.self.view_is ∙ sym c.has.ensures ∙ c.if-has.false in
     let back = on_err c.line_up.result _ (sym c.is_err.ensures.value ∙ c.if-is_err.true) c.line_up.ensures.same in
     once-back c.args.id c.self.inside.lanes.items c.line_up.new.lanes.items
     (λ (q : ℕ). list_any (is_at (nat_cmp q)) c.self.inside.waiting.keys) (λ (q : ℕ). list_any (is_at (nat_cmp q)) c.insert.new.self.keys)
@@ -21,7 +21,7 @@ invariant_of-self-then-is_err c =
 pub invariant_of-self-2 : goal.invariant_of-self-2
 invariant_of-self-2 c =
     let absent : ltb 0 (times_in c.args.id c.self.inside.lanes.items) ≡ false =
-      ap (λ (l : Lanes). ltb 0 (times_in c.args.id l.lanes)) c.self.view_is ∙ sym c.has.ensures ∙ c.if-has.false in
+    ap (λ (l : Lanes). ltb 0 (times_in c.args.id l.lanes)) c.self.view_is ∙ sym c.has.ensures ∙ c.if-has.false in
     let behind = on_ok c.line_up.result _ (sym c.is_err.ensures.value ∙ c.if-is_err.false) c.line_up.ensures.put in
     once-put (record { id = c.args.id; turn = c.self.inside.turns }) c.args.long c.in_ok-place.place c.self.inside.lanes.items c.line_up.new.lanes.items
     (λ (q : ℕ). list_any (is_at (nat_cmp q)) c.self.inside.waiting.keys) (λ (q : ℕ). list_any (is_at (nat_cmp q)) c.insert.new.self.keys)

@@ -8,5 +8,5 @@ pub returns-in-Some-clause-seen : goal.returns-in-Some-clause-seen
 returns-in-Some-clause-seen c =
     let e : position (is_of c.args.account.now) c.self.inside.seen.items ≡ Some c.in-Some.place = rw c.self.view_is (sym c.place_of.ensures ∙ c.in-Some.is) in
     let same : c.behind-self.inside.account ≡ c.args.account.now =
-      ap (λ (s : Seen). s.account) (c.behind-self.view_is ∙ c.index_mut.ensures.value) ∙ found_account _ _ _ _ e in
+    ap (λ (s : Seen). s.account) (c.behind-self.view_is ∙ c.index_mut.ensures.value) ∙ found_account _ _ _ _ e in
     rw (← c.self.view_is, e, same) refl
