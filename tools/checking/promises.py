@@ -15,6 +15,8 @@ WORD = re.compile(r"`([\w:]+)(?:\.\w+)?`")
 KEY = re.compile(r"\*(\w+)\*")
 PROMISE = re.compile(r"promise: (\w+)\n")
 PART = "\u21b3"
+# How many edits of a promise its row names.
+MOST_NAMED = 4
 # Crates whose check takes more than 200 seconds of processor time: the gate tries one edit of each at most, and asks for none.
 DEAR = {
     "config", "config_warnings", "esme_service", "fate_chain", "journal_parts", "node_core", "node_kept", "node_parts", "node_stores", "node_threads",
@@ -50,9 +52,11 @@ def all_edits():
 
 
 def column(key, found):
-    """The edits of a promise, as its row has them."""
-    mine = sorted((edit.stem, in_gate) for edit, promise, in_gate in found if promise == key)
-    return f"*{key}*: " + ", ".join(f"**`{name}`**" if in_gate else f"`{name}`" for name, in_gate in mine)
+    """The edits of a promise, as its row has them: those of the gate, some of the others, and how many more there are."""
+    mine = sorted((not in_gate, edit.stem) for edit, promise, in_gate in found if promise == key)
+    named = [f"`{name}`" if beside else f"**`{name}`**" for beside, name in mine[:MOST_NAMED]]
+    more = [f"{len(mine) - MOST_NAMED} more"] * (len(mine) > MOST_NAMED)
+    return f"*{key}*: " + ", ".join(named + more)
 
 
 def written(text, found):

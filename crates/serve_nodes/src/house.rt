@@ -2,7 +2,6 @@
 
 use crate::ending::{End, Ending};
 use crate::pace::Pace;
-use crate::spread::Spread;
 use crate::station::{Station, Wake};
 use crate::stop::Stop;
 use config::{Config, Own};
@@ -16,6 +15,7 @@ use std::sync::atomic::{AtomicBool, AtomicU64, Ordering};
 use std::sync::{Arc, Mutex, Wait};
 use std::thread;
 use std::time::{Duration, Instant};
+use waiting_messages::Spread;
 
 /// What stays of a server through all parts of its journal: what it is run by, and its nodes with their sessions.
 #[derive(Drop)]
@@ -197,7 +197,7 @@ impl House {
             let accounts = station.site.lock(rt).accounts_up()?;
             up.push(accounts)?;
         }
-        Ok(Spread { up })
+        Ok(Spread::of(up))
     }
 
     /// The greatest number of a packet that nodes were told of.

@@ -1,7 +1,6 @@
 //! The nodes of a server, as its threads share them through all parts of its journal: what stands at each, what wakes its threads, and how far all are.
 #![tactic(auto)]
 
-mod backlog;
 mod beat;
 mod bell;
 mod carriage;
@@ -9,27 +8,21 @@ mod doors;
 mod ending;
 mod frames;
 mod house;
-mod lanes;
 mod opening;
 mod pace;
-mod presence;
 mod rounds;
 mod settings;
 mod site;
-mod spread;
 mod station;
 mod stop;
 
-pub use backlog::{Backlog, Naming};
 pub use beat::Beat;
 pub use doors::Doors;
 pub use ending::{End, Ending};
 pub use house::{Counters, House};
-pub use lanes::Lanes;
 pub use opening::house_of;
 pub use pace::Pace;
 pub use settings::Settings;
 pub use site::Site;
-pub use spread::Spread;
 pub use station::{Anew, Station, Wake};
 pub use stop::Stop;

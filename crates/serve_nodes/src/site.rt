@@ -7,11 +7,8 @@ ghost use Rattle.esme_service.specs.Sessions.{put_at, session_in, without_sessio
 ghost use Rattle.esme_site.specs.Puts.{given_out, mail_in};
 ghost use Rattle.serve_nodes.specs.Frames.{Puts};
 
-use crate::backlog::{Backlog, Naming};
 use crate::carriage::Carriage;
 use crate::frames::Frames;
-use crate::lanes::Lanes;
-use crate::presence::Presence;
 use connection_parts::{Frame, Job, Tally};
 use esme_service::{HeardPdu, Service};
 use esme_site::{post_for, post_for_all, reply_all, tell};
@@ -24,6 +21,7 @@ use std::alloc::{AllocError, Global};
 use std::collections::BTreeMap;
 use std::rt::Clock;
 use std::sync::{Arc, Wait};
+use waiting_messages::{Backlog, Lanes, Naming, Presence};
 use waiting_requests::Reply;
 
 /// How long a node with few message_ids left waits for a quiet moment in which to start anew, in milliseconds.

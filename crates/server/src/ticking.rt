@@ -3,12 +3,13 @@
 use crate::shift::{FEW_LOOKS, Shift, ring};
 use crate::trouble::Trouble;
 use node_workers::{Action, Begins, Seat};
-use serve_nodes::{Beat, Ending, Naming};
+use serve_nodes::{Beat, Ending};
 use serve_sessions::Mark;
 use stable_store::StableStore;
 use std::rt::Clock;
 use std::sync::Wait;
 use std::sync::atomic::Ordering;
+use waiting_messages::Naming;
 
 /// How long a node waits between two ticks if nothing is due, in milliseconds.
 const SECOND: u64 = 1_000;
