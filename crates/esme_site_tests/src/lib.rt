@@ -1,0 +1,15 @@
+//! The tests of `esme_site`, in a crate without code so that it is proved once.
+#![tactic(auto)]
+
+#[cfg(test)]
+mod calls;
+#[cfg(test)]
+mod double;
+#[cfg(test)]
+mod octets;
+#[cfg(test)]
+mod replies;
+#[cfg(test)]
+mod same;
+#[cfg(test)]
+mod values;
