@@ -4,6 +4,7 @@ costs; and beside it what others do that do a part of its work.
 
     python3 bench/serve.py PROGRAM [MESSAGES [CENTRE]]
     python3 bench/serve.py --idle PROGRAM
+    python3 bench/serve.py --held PROGRAM
 
 A client at each node binds over a plain socket of 127.0.0.1, keeps ten submit_sm open, and gets its own messages back, each of which it answers at once; no
 receipt is asked for. MESSAGES (1,000) are shared among the clients of a run. Printed for each run are the submit_sm answered in a second, up to the last
@@ -28,6 +29,11 @@ Then, or with --idle alone, comes what `serve` takes that nobody is connected to
 they wake, and its processor time a second.
 
 Last come the fdatasync and fsync that `serve` itself makes for a message, by strace, in runs of their own (if strace is there).
+
+With --held alone it prints what `serve` holds over three nodes in memory once 1,000, 6,000, 24,000 and 50,000 messages of one run were submitted and delivered:
+the memory of the process, and its peak so far, of /proc/PID/status, what a message took more since the line before, and the processor time of a message since
+then. The journal holds up to 150,000 entries, whatever has ended, so from one line to the next the memory rises or falls by what these take. malloc keeps
+what was given back, the more the more arenas it has: set MALLOC_ARENA_MAX as the unit of docs/OPERATING.md does. It takes minutes.
 """
 import argparse
 import os
@@ -55,6 +61,8 @@ DELAY_NODES, DELAY_SECONDS = 3, 20
 WAITING, WAITING_MESSAGES = (0, 20_000, 90_000), 2_000
 SYNCS, SYNC_SECONDS = 500, 2
 IDLE_SECONDS, BEFORE_IDLE = 20, 3
+HELD_NODES, HELD, HELD_SECONDS, HELD_REST = 3, (1_000, 6_000, 24_000, 50_000), 1_200, 2
+MEMORY = re.compile(r"^(VmHWM|VmRSS):\s+(\d+) kB", re.M)
 SLEEPS = re.compile(r"^voluntary_ctxt_switches:\s+(\d+)", re.M)
 SYNC = re.compile(r"\b(?:fdatasync|fsync)\(")
 PART = re.compile(r"part \d+: .*, closed in (\d+) ms")
@@ -144,8 +152,8 @@ def syncs_a_second(folder):
     return count / (time.monotonic() - begun)
 
 
-def load(clients):
-    """The seconds until all submits were answered, and until all messages were delivered; None for what did not come to its end in time."""
+def load(clients, seconds=SECONDS):
+    """The seconds until all submits were answered, and until all messages were delivered; None for what did not come to its end in so many."""
     begun, esmes, moments = time.monotonic(), [client.esme for client in clients], {}
 
     def is_done():
@@ -157,7 +165,7 @@ def load(clients):
         if "delivered" not in moments and all(client.delivered() >= client.wanted - client.refused for client in clients):
             moments["delivered"] = now
         return len(moments) == 2
-    wait(esmes, is_done, SECONDS)
+    wait(esmes, is_done, seconds)
     return moments.get("answered"), moments.get("delivered")
 
 
@@ -366,6 +374,41 @@ def run_all_idle(program):
         in_a_folder(lambda folder: run_idle(program, folder, nodes))
 
 
+def memory_of(pid):
+    """The octets of memory that a process has, and its peak so far."""
+    found = {one[1]: int(one[2]) * 1_024 for one in MEMORY.finditer(pathlib.Path(f"/proc/{pid}/status").read_text())}
+    return found["VmRSS"], found["VmHWM"]
+
+
+def run_held(program, folder):
+    """The table of what the server holds behind messages that have ended."""
+    arenas = os.environ.get("MALLOC_ARENA_MAX", "not set")
+    print(f"| Messages that have ended, MALLOC_ARENA_MAX {arenas} | Memory | Peak | More, a message | Processor time a message | Parts closed |\n|---|---|---|---|---|---|")
+    ports = write_config(folder, HELD_NODES, False)
+    serving = server_of(program, folder, ports)
+    try:
+        if not serving.start():
+            sys.exit(f"{name_of(program)} does not serve: {serving.said()}")
+        pid, clients, ended, held = serving.process.pid, clients_of(ports, 0), 0, memory_of(serving.process.pid)[0]
+        for count in HELD:
+            used = processor_seconds(pid)
+            for client in clients:
+                client.left = count // len(clients) - client.wanted
+                client.wanted += client.left
+            if not all(load(clients, HELD_SECONDS)):
+                sys.exit(f"{count:,} messages did not come to their end in time; {serving.said()}")
+            more = sum(client.wanted for client in clients) - ended
+            time.sleep(HELD_REST)
+            ended, before, used = ended + more, held, processor_seconds(pid) - used
+            held, peak = memory_of(pid)
+            put(f"{ended:,}", f"{held / 1e6:,.0f} MB", f"{peak / 1e6:,.0f} MB", f"{(held - before) / more:,.0f} octets", f"{1e3 * used / more:.2f} ms", parts_of(serving))
+        serving.end()
+    except Ended as fault:
+        sys.exit(f"held: {fault}; {serving.said()}")
+    finally:
+        serving.kill()
+
+
 def in_a_folder(do, *arguments):
     """Does something with a folder of its own, which is gone then."""
     folder = pathlib.Path(tempfile.mkdtemp(prefix="serve-"))
@@ -381,10 +424,13 @@ def main():
     reader.add_argument("messages", metavar="MESSAGES", type=int, nargs="?", default=MESSAGES)
     reader.add_argument("centre", metavar="CENTRE", nargs="?")
     reader.add_argument("--idle", action="store_true", help="measure an idle server alone")
+    reader.add_argument("--held", action="store_true", help="measure what is held behind messages that have ended alone")
     given = reader.parse_args()
     program, messages = given.program.resolve(), given.messages
     if given.idle:
         return run_all_idle(program)
+    if given.held:
+        return in_a_folder(lambda folder: run_held(program, folder))
     if not WINDOW <= messages <= MOST_MESSAGES:
         reader.error(f"MESSAGES is {WINDOW} to {MOST_MESSAGES}")
     print("| What | Stores | Messages | Submits answered a second | Delivered a second | Processor time a message | fdatasync a second | Parts closed |")
