@@ -165,17 +165,18 @@ impl Site {
         Ok(())
     }
 
-    /// What was put goes onto the connections of its sessions, those are lost for which there was no memory, and it is counted.
-    fn post_all<R: Wait>(&mut self, rt: &R, frames: Frames) {
-        let Frames {
-            frames,
-            lost,
-            receipts,
-            fates,
-            ..
-        } = frames;
-        self.tally.receipts = self.tally.receipts.saturating_add(receipts);
-        self.tally.fates = self.tally.fates.saturating_add(fates);
+    /// What was put is counted, goes onto the connections of its sessions, and those are lost for which there was no memory.
+    fn post_all<R: Wait>(&mut self, rt: &R, frames: Frames)
+        ensures { self.new.service ≡ self.old.service }
+    {
+        self.tally.receipts = self.tally.receipts.saturating_add(frames.receipts);
+        self.tally.fates = self.tally.fates.saturating_add(frames.fates);
+        self.hand_over(rt, frames);
+    }
+
+    /// What was put goes onto the connections of its sessions, and those are lost for which there was no memory.
+    fn hand_over<R: Wait>(&self, rt: &R, frames: Frames) {
+        let Frames { frames, lost, .. } = frames;
         for frame in frames {
             self.post(rt, frame);
         }
