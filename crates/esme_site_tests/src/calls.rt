@@ -37,10 +37,28 @@ fn serving(rt: &impl Abort, alloc: Global) -> Service {
 
 /// What each row shows, the tickets of the replies, which put wants memory, whether all went out, and what was put or lost.
 const REPLIES: &[(&str, &[u64], u64, bool, &[Event])] = &[
-    ("a reply goes to who holds its ticket alone", &[2], 0, true, &[(2, 27)]),
-    ("each reply goes out once, in order", &[2, 1, 2], 0, true, &[(2, 27), (1, 27)]),
+    (
+        "a reply goes to who holds its ticket alone",
+        &[2],
+        0,
+        true,
+        &[(2, 27)],
+    ),
+    (
+        "each reply goes out once, in order",
+        &[2, 1, 2],
+        0,
+        true,
+        &[(2, 27), (1, 27)],
+    ),
     ("nobody holds the ticket", &[3], 0, true, &[]),
-    ("one wants memory, and the other goes out", &[1, 2], 1, false, &[(1, 0), (2, 27)]),
+    (
+        "one wants memory, and the other goes out",
+        &[1, 2],
+        1,
+        false,
+        &[(1, 0), (2, 27)],
+    ),
 ];
 
 #[test]
@@ -77,8 +95,22 @@ const ROOM: &[Event] = &[(1, 163); 10];
 const RECEIPTS: &[(&str, u8, u8, u64, bool, &[Event])] = &[
     ("nobody is there", 0, 1, 0, true, &[]),
     ("one receipt goes out", 2, 1, 0, true, &[(1, 163)]),
-    ("as many go out as a window has places", 1, 11, 0, true, ROOM),
-    ("one in the middle wants memory", 1, 3, 2, false, &[(1, 163), (1, 0), (1, 163)]),
+    (
+        "as many go out as a window has places",
+        1,
+        11,
+        0,
+        true,
+        ROOM,
+    ),
+    (
+        "one in the middle wants memory",
+        1,
+        3,
+        2,
+        false,
+        &[(1, 163), (1, 0), (1, 163)],
+    ),
 ];
 
 #[test]
@@ -114,7 +146,11 @@ fn a_receipt_waits_for_its_account(rt: HostRuntime) {
     let again = post_for(&mut service, &mut kept, at(&rt, 0), &account);
     drop(account);
     drop(service);
-    assert_same(&rt, &(first.is_ok(), again.is_ok(), kept.last()), &(true, true, RECEIPT));
+    assert_same(
+        &rt,
+        &(first.is_ok(), again.is_ok(), kept.last()),
+        &(true, true, RECEIPT),
+    );
     assert_events(&rt, "once", kept, &[(1, 163)]);
 }
 

@@ -16,7 +16,7 @@ use Rattle.script_site.specs.Posting.{IsPosted, mail_in}
 use Rattle.script_site.specs.Sites.{Acts, HasActed, IsRunning, Placed, replies_to, tells}
 use Rattle.script_site.specs.Told.{AreTold}
 use Rattle.script_site.specs.declared.site.Site.{Site}
-use Rattle.script_site.proofs.Replies.{in_turn}
+use Rattle.script_site.proofs.Joining.{in_turn}
 use Rattle.script_site.proofs.Stepping.{clock_is}
 
 -- ---- one thing after another

@@ -20,7 +20,7 @@ use Rattle.script_text.specs.Attempts.{Went, all_given_up, concluded, delivered_
 use Rattle.script_text.specs.Node.{Node}
 use Rattle.script_text.specs.World.{World}
 use Rattle.script_site.specs.Sites.{Goes, IsGoing, Takes}
-use Rattle.script_site.proofs.Going.{behind_it}
+use Rattle.script_site.proofs.Joining.{behind_it}
 use Rattle.script_site.proofs.Refusing.{closed_so, open_so}
 use Rattle.script_site.proofs.Stepping.{answer_goes, stays}
 

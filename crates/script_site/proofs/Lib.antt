@@ -1,6 +1,6 @@
 pub mod Digits
-pub mod Replies
-pub mod Going
+pub mod Joining
+pub mod AddedLines
 pub mod Serving
 pub mod Stepping
 pub mod Refusing

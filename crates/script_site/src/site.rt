@@ -7,11 +7,10 @@ ghost use Rattle.delivery.specs.Deliveries.{EndsInAttempt};
 ghost use Rattle.script_text.specs.Settings.{settings_of};
 
 use crate::output::{write_all_gone, write_gone, write_outgoing, write_sending, write_ungranted};
-use crate::posting::{post_all, post_for, post_for_all};
-use crate::replying::write_replies;
 use crate::session_place::SessionPlace;
 use crate::steps::{Granting, conclude, conclude_by, give_up, grant, take};
 use crate::streams::Streams;
+use crate::telling::{post_all, post_for, post_for_all, write_replies};
 use config::Config;
 use delivery::{Outcome, outcome_of};
 use desk::Request;

@@ -1,6 +1,6 @@
 -- How often a message stands in the queues, through what changes them.
 use Rattle.std.proofs.Common.{◌≡◌, ℕ, ◌+◌, ◌<◌, Bool, true, false, cond, eqb, ltb, List, [], ◌∷◌, ◌++◌, Some, None, Option, arith, refl, sym, ap, ◌∙◌, drop, length, get_or}
-use Rattle.std.specs.Prelude.{filter, not, sum_by, slice_get, option_and_then, is_some, if◌then◌else◌, ◌&&◌, ◌||◌}
+use Rattle.std.specs.Prelude.{filter, not, sum_by, slice_get, option_and_then, is_some, if◌then◌else◌, ◌&&◌}
 use Rattle.std.specs.List.{list_any}
 use Rattle.std.specs.Ordering.{is_eq, nat_cmp}
 use Rattle.std.specs.BTreeMap.{is_at}
@@ -11,7 +11,7 @@ use Rattle.std.proofs.lemmas.Bool.Decides.{eqb_tells, nat_tests}
 use Rattle.std.proofs.lemmas.Bool.{eqb-true, eq-eqb}
 use Rattle.std.proofs.lemmas.List.Sums.{sum_by_push, sum_by-set, sum_by-cons}
 use Rattle.std.proofs.lemmas.Option.{slice_get_within, get_or_from_slice_get, slice_get-get_or}
-use Rattle.waiting_messages.specs.Lanes.{Lane, Waiter, changed_at, empty, front, is_empty, place_of, put_behind, queue, times_in, times_in_lane, with_at, with_lane, without_front}
+use Rattle.waiting_messages.specs.Lanes.{Lane, Waiter, changed_at, empty, front, is_empty, place_of, put_behind, times_in, times_in_lane, with_lane, without_front}
 
 -- one if it is that message
 abbrev pub one_if : ℕ → ℕ → ℕ

@@ -1,6 +1,6 @@
 -- The messages that wait for a worker, by account (own).
 use Rattle.std.specs.Prelude.{◌≡◌, ℕ, ◌+◌, ◌==◌, Bool, true, false, ◌&&◌, nat_lt, List, [], ◌∷◌, ◌++◌, count_by, drop, filter, length, min, not, position, slice_get, slice_set}
-use Rattle.std.specs.Prelude.{Option, Some, None, is_some, option_map, sum_by, unwrap_or, if◌then◌else◌}
+use Rattle.std.specs.Prelude.{Option, Some, None, is_some, sum_by, unwrap_or, if◌then◌else◌}
 use Rattle.std.specs.BTreeMap.{is_at}
 use Rattle.std.specs.List.{list_any}
 use Rattle.std.specs.Ordering.{nat_cmp}

@@ -27,3 +27,9 @@ pub record Begins (spread : List (List (List ℕ))) (node home : ℕ) (account :
 abbrev pub IsDown : List (List (List ℕ)) → ℕ → List ℕ → Type 0
 IsDown spread home account =
     (steps : ℕ) → steps < length spread → is_up_at spread (behind (length spread) home steps) account ≡ false
+
+-- No two nodes begin the attempts of one message.
+abbrev pub OneBegins : Type 0
+OneBegins =
+    (spread : List (List (List ℕ))) (home : ℕ) (account : List ℕ) (node other : ℕ) → Begins spread node home account →
+    Begins spread other home account → node ≡ other

@@ -1,8 +1,7 @@
 //! Messages that wait for a worker and go to one account.
 
-ghost use Rattle.std.specs.Prelude.{◌≡◌, ◌+◌, ◌<◌, min, length, option_map, OnErr, OnOk};
-ghost use Rattle.std.specs.Option.{option_copied};
-ghost use Rattle.waiting_messages.specs.Lanes.{begins_long, count_in, empty, front, is_empty, is_of, put_behind, queue, without_front};
+ghost use Rattle.std.specs.Prelude.{◌≡◌, ◌+◌, ◌<◌, min, length, OnErr, OnOk};
+ghost use Rattle.waiting_messages.specs.Lanes.{begins_long, empty, front, is_empty, is_of, put_behind, without_front};
 
 use mc_types::MsgId;
 use pdu_codec::SystemId;

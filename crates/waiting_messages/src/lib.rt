@@ -6,6 +6,7 @@ mod attempt;
 mod backlog;
 mod lane;
 mod lanes;
+mod laws;
 mod naming;
 mod presence;
 mod queue;
@@ -13,6 +14,7 @@ mod spread;
 
 pub use backlog::Backlog;
 pub use lanes::Lanes;
+pub use laws::one_node_begins;
 pub use naming::Naming;
 pub use presence::Presence;
 pub use spread::Spread;

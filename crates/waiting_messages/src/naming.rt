@@ -1,6 +1,6 @@
 //! By what messages are named.
 
-ghost use Rattle.std.specs.Prelude.{◌≡◌, ◌↔◌, IsTrue};
+ghost use Rattle.std.specs.Prelude.{◌↔◌, IsTrue};
 ghost use Rattle.waiting_messages.specs.Named.{IsNameable};
 
 use crate::queue::Queue;

@@ -55,21 +55,19 @@ fn spread(rt: &impl Abort, alloc: Global) -> Spread {
     Spread::of(up)
 }
 
-// How many messages are named, two at most, and whether that of a serial is one of them.
+// The messages that are named, two at most.
 fn named(
     rt: &impl Abort,
+    alloc: Global,
     backlog: &mut Backlog,
     naming: &Naming<'_>,
     target: &SystemId,
-    serial: u64,
-) -> (usize, bool) {
-    let mut named = MessageIds::none(Global);
+) -> MessageIds {
+    let mut named = MessageIds::none(alloc);
     backlog
         .name(naming, target, 2, &mut named)
         .expect(rt, "memory");
-    let found = (named.rest(0).len(), named.has(id(rt, serial)));
-    drop(named);
-    found
+    named
 }
 
 #[test]
@@ -101,8 +99,10 @@ fn the_earliest_are_named_and_are_put_off_after_ten_times_in_vain(
             spread: &spread,
         };
         for _ in 0..times {
-            let found = named(&rt, &mut backlog, &naming, &target, 1);
-            assert!(rt; found == (count, is_first));
+            let named = named(&rt, alloc, &mut backlog, &naming, &target);
+            assert!(rt; named.rest(0).len() == count);
+            assert!(rt; named.has(id(&rt, 1)) == is_first);
+            drop(named);
         }
     }
     drop(backlog);

@@ -1,4 +1,4 @@
-use Rattle.std.proofs.Common.{◌≡◌, ◌<◌, get_or, length, sym, ◌∙◌, rules, arith, take}
+use Rattle.std.proofs.Common.{◌<◌, get_or, length, rules, arith, take}
 use Rattle.std.proofs.lemmas.Grind.{common_steps}
 use Rattle.waiting_messages.specs.Queues.{first_due}
 use Rattle.waiting_messages.proofs.Firsts.{first-all, first-some, names-more, one_of}

@@ -1,4 +1,4 @@
-use Rattle.std.proofs.Common.{rules, ap, ◌∙◌, sym}
+use Rattle.std.proofs.Common.{rules}
 use Rattle.waiting_messages.proofs.Remembering.{absent_told}
 use Rattle.waiting_messages.proofs.presence.Presence.absent.Goals as goal
 

@@ -1,4 +1,4 @@
-use Rattle.std.proofs.Common.{◌≡◌, Some, ap, ◌∙◌, sym, refl, rules}
+use Rattle.std.proofs.Common.{◌≡◌, Some, ap, ◌∙◌, sym, refl}
 use Rattle.std.specs.Prelude.{position}
 use Rattle.waiting_messages.specs.Presences.{Seen, is_of}
 use Rattle.waiting_messages.proofs.Remembering.{found_account}

@@ -1,4 +1,4 @@
-use Rattle.std.proofs.Common.{◌≡◌, ◌+◌, ℕ, List, ap, sym, ◌∙◌, rules, arith, take}
+use Rattle.std.proofs.Common.{◌≡◌, ◌+◌, ℕ, List, ap, ◌∙◌, rules, arith, take}
 use Rattle.std.proofs.lemmas.Grind.{common_steps}
 use Rattle.waiting_messages.specs.Queues.{all_named, first_due}
 use Rattle.waiting_messages.proofs.Standing.{is_on_err}
