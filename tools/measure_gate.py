@@ -52,7 +52,7 @@ MOST_EDITS, MOST_AN_EDIT = 6, 25
 MOST_A_CHECK, MOST_TESTS, MOST_MEMORY = 300, 120, 4_000_000_000
 
 # Minutes of processor time from which on a crate has a row in a whole run: pages have a limit.
-LEAST_SHOWN = 6
+LEAST_SHOWN = 8
 # How many of those that are beyond a budget are named.
 MOST_TOLD = 5
 

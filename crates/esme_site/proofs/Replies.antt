@@ -28,29 +28,6 @@ pub told_nothing : (connected : List (ℕ × Session)) (waiting : List Given) �
 unfolding told
 told_nothing connected waiting none = rw none refl
 
-module _ (connected : List (ℕ × Session)) (reply : Sent) where
-  abbrev prints_at : Option Owned → List Print
-  prints_at owned = reply_prints (reply_given reply) owned
-
-  -- what goes out is printed as the reply is
-  pub its_prints : (sending : Sending) → Some sending ≡ reply_to reply (owner_of connected reply.ticket)
-      → ArePrintsOf sending (prints_at (owner_of connected reply.ticket))
-  its_prints sending is = by_owner (owner_of connected reply.ticket) is
-    where
-      by_owner : (owned : Option Owned) → Some sending ≡ reply_to reply owned → ArePrintsOf sending (prints_at owned)
-      by_owner None same = absurd cc
-      by_owner (Some owned) same =
-          let one : sending ≡ Reply (record { number = owned.number; request = owned.request }) reply = cc in
-          subst (λ (s : Sending). ArePrintsOf s (prints_at (Some owned))) (sym one) refl
-
-  -- none holds it: nothing is printed
-  pub no_prints : None ≡ reply_to reply (owner_of connected reply.ticket) → prints_at (owner_of connected reply.ticket) ≡ []
-  no_prints is = by_owner (owner_of connected reply.ticket) is
-    where
-      by_owner : (owned : Option Owned) → None ≡ reply_to reply owned → prints_at owned ≡ []
-      by_owner None same = refl
-      by_owner (Some owned) same = absurd cc
-
 -- its session is lost
 module _ (connected : List (ℕ × Session)) (reply other : Sent) (sending : Sending) where
   pub lost_for : other.ticket ≡ reply.ticket → Some sending ≡ reply_to other (owner_of connected other.ticket)
@@ -80,15 +57,6 @@ module _ (connected : List (ℕ × Session)) (reply other : Sent) where
 module _ {O : Type 0} (puts : O → List Print → List ℕ → O → Type 0) where
   module _ (connected : List (ℕ × Session)) (reply : Sent) (sending : Sending) (is : Some sending ≡ reply_to reply (owner_of connected reply.ticket))
       (r : Result (Unit {0}) AllocError) (before after : O) where
-    pub reply_put : OnOk r ((prints : List Print) → ArePrintsOf sending prints → puts before prints [] after)
-        → OnOk r (puts before (reply_prints (reply_given reply) (owner_of connected reply.ticket)) [] after)
-    reply_put did = by_result r did
-      where
-        by_result : (r : Result (Unit {0}) AllocError) → OnOk r ((prints : List Print) → ArePrintsOf sending prints → puts before prints [] after)
-            → OnOk r (puts before (reply_prints (reply_given reply) (owner_of connected reply.ticket)) [] after)
-        by_result (Ok done) did = did (reply_prints (reply_given reply) (owner_of connected reply.ticket)) (its_prints connected reply sending is)
-        by_result (Err fault) did = tt
-
     pub reply_lost : OnErr r (puts before [] (number_of sending ∷ []) after)
         → OnErr r (HasSettled puts (reply_prints (reply_given reply) (owner_of connected reply.ticket)) before after)
     reply_lost did = by_result r did

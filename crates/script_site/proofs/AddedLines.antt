@@ -18,23 +18,6 @@ use Rattle.script_site.specs.Posting.{IsPosted, mail_in}
 use Rattle.script_site.specs.Told.{AreTold}
 use Rattle.script_site.specs.Written.{Adds, IsWritten, line_of}
 
-report_line : (node : ℕ) (pushed : PushedOn) (report : Option Report)
-    → line_of node pushed.number (option_map (report_octets pushed.sequence pushed.knows_optional) report) ≡ text_at node (report_prints pushed report)
-report_line node pushed None = refl
-report_line node pushed (Some report) = sym (append-nil _)
-
--- the line of what goes out is the text of what is printed of it
-pub its_text : (node : ℕ) (sending : Sending) (line : List ℕ) (prints : List Print) → IsWritten node sending [] line → ArePrintsOf sending prints
-    → line ≡ text_at node prints
-its_text node (sendings.Reply owner reply) line prints wrote is =
-    wrote.text ∙ ap (λ (os : Option (List ℕ)). line_of node owner.number os) wrote.are ∙ sym (append-nil _) ∙ ap (λ (p : List Print). text_at node p) (sym is)
-its_text node (sendings.Attempt pushed chain) line prints wrote is =
-    wrote.text ∙ ap (λ (os : Option (List ℕ)). line_of node pushed.number os) (wrote.are is.ends is.taken is.is) ∙ sym (append-nil _)
-    ∙ ap (λ (p : List Print). text_at node p) (sym is.prints_are)
-its_text node (sendings.Receipt pushed chain) line prints wrote is =
-    wrote.text ∙ ap (λ (os : Option (List ℕ)). line_of node pushed.number os) wrote.are ∙ report_line node pushed _
-    ∙ ap (λ (p : List Print). text_at node p) (sym is)
-
 module _ (r : Result (Unit {0}) AllocError) (node one two : ℕ) (before from to after : List ℕ) (here : one ≡ node) (begins : from ≡ before)
     (ends : after ≡ to) where
   text_so : (prints : List Print) → Adds one from prints two to → after ≡ before ++ text_at node prints

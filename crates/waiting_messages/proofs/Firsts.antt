@@ -10,9 +10,6 @@ use Rattle.waiting_messages.specs.Queues.{Queue, all_named, first_due}
 use Rattle.waiting_messages.specs.Named.{IsFirstOfOne, IsNameable, NamesFirst}
 
 module _ (spread : List (List (List ℕ))) (node now share : ℕ) (account : List ℕ) (queues : List Queue) where
-  pub names-none : (old : List ℕ) → NamesFirst spread node now share account queues old old
-  names-none old = record { dues = []; are_put = refl; are_first = λ k d below. absurd (omega arith) }
-
   pub names-more : (old mid new : List ℕ) (queue : Queue) (dues : List (ℕ × ℕ)) → NamesFirst spread node now share account queues old mid →
       Contains queues queue → IsNameable spread node now account queue → All (Contains (first_due now share queue)) dues →
       new ≡ all_named mid dues → NamesFirst spread node now share account queues old new

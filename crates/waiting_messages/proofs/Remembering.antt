@@ -22,13 +22,6 @@ absent_told accounts (seen ∷ others) zero d below apart none =
 absent_told accounts (seen ∷ others) (suc i) d below apart none =
     absent_told accounts others i d (omega arith) apart (none_behind seen.account (absent_in accounts others) (is_among seen.account accounts) none)
 
-some_is : (is : Bool) (m n : ℕ) → cond is (Some m) None ≡ Some n → (is ≡ true) × (m ≡ n)
-some_is true m n e = (refl, cc)
-some_is false m n e = absurd (cc)
-
-same_bytes : (xs ys : List ℕ) → bytes_eq xs ys ≡ true → xs ≡ ys
-same_bytes xs ys e = search (rules, bytes_eq-Decides xs ys)
-
 -- what is found is that of the account
 pub found_account : (account : List ℕ) (presence : List Seen) (place : ℕ) (d : Seen) → position (is_of account) presence ≡ Some place →
     (get_or presence place d).account ≡ account
@@ -36,4 +29,8 @@ found_account account presence place d e =
     let is = some_is (ltb (position_or_len (is_of account) presence) (length presence)) (position_or_len (is_of account) presence) place e in
     let below : position_or_len (is_of account) presence < length presence = grind (arith, nat_tests, is.0) in
     rw is.1 at (let same : bytes_eq (get_or presence (position_or_len (is_of account) presence) d).account account ≡ true = passes_at_first (is_of account) presence d below in
-    same_bytes (get_or presence (position_or_len (is_of account) presence) d).account account same)
+    (bytes_eq-Decides (get_or presence (position_or_len (is_of account) presence) d).account account).0 same)
+  where
+    some_is : (is : Bool) (m n : ℕ) → cond is (Some m) None ≡ Some n → (is ≡ true) × (m ≡ n)
+    some_is true m n e = (refl, cc)
+    some_is false m n e = absurd (cc)

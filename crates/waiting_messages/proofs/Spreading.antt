@@ -1,5 +1,5 @@
 -- At which places an account is up.
-use Rattle.std.proofs.Common.{◌≡◌, ℕ, ◌+◌, ◌-◌, ◌<◌, false, true, length, arith, ap, sym, ◌∙◌, List, Some, None, Option, refl, map}
+use Rattle.std.proofs.Common.{◌≡◌, ℕ, ◌+◌, ◌<◌, false, true, length, arith, ap, sym, ◌∙◌, List, Some, None, Option, refl, map}
 use Rattle.std.proofs.Math.Nat.{add-sub_cancel}
 use Rattle.std.specs.Prelude.{slice_get, option_map}
 use Rattle.std.specs.Option.{option_map_or}
@@ -19,14 +19,6 @@ up-map account (Some accounts) = refl
 pub up_there : (up : List (Vec (List ℕ))) (place : ℕ) (account : List ℕ) →
     is_up_at (map items_of up) (place + 1) account ≡ option_map_or (λ accounts. is_among account (items_of accounts)) (slice_get up place) false
 up_there up place account = rw (add-sub_cancel place 1, slice_get-map items_of up place) (up-map account (slice_get up place))
-
-pub up_found : (up : List (Vec (List ℕ))) (place : ℕ) (account : List ℕ) (found : Vec (List ℕ)) → slice_get up place ≡ Some found →
-    is_among account found.items ≡ is_up_at (map items_of up) (place + 1) account
-up_found up place account found e = rw (up_there up place account, e) refl
-
-pub up_nowhere : (up : List (Vec (List ℕ))) (place : ℕ) (account : List ℕ) → slice_get up place ≡ None →
-    false ≡ is_up_at (map items_of up) (place + 1) account
-up_nowhere up place account e = rw (up_there up place account, e) refl
 
 -- no fewer steps lead to a node at which the account is up
 no_fewer : (spread : List (List (List ℕ))) (home : ℕ) (account : List ℕ) (one other : ℕ) → IsFirstUp spread home account one →

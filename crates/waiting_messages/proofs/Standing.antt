@@ -8,7 +8,7 @@ use Rattle.std.specs.Prelude.{Result, Ok, Err, OnErr, OnOk, IsTrue, ◌↔◌}
 use Rattle.std.specs.Result.{is_err}
 use Rattle.std.proofs.Common.{⊎_elim}
 use Rattle.std.proofs.lemmas.Bool.Decides.{eqb_tells, nat_tests}
-use Rattle.std.proofs.lemmas.Bool.{eqb-true, eq-eqb}
+use Rattle.std.proofs.lemmas.Bool.{and_parts, eqb-true, eq-eqb}
 use Rattle.std.proofs.lemmas.List.Sums.{sum_by_push, sum_by-set, sum_by-cons}
 use Rattle.std.proofs.lemmas.Option.{slice_get_within, get_or_from_slice_get, slice_get-get_or}
 use Rattle.waiting_messages.specs.Lanes.{Lane, Waiter, changed_at, empty, front, is_empty, place_of, put_behind, times_in, times_in_lane, with_lane, without_front}
@@ -50,13 +50,9 @@ none-empty : (q : ℕ) (waiters : List Waiter) → eqb (length waiters) 0 ≡ tr
 none-empty q [] e = refl
 none-empty q (w ∷ ws) e = absurd (omega (arith, eqb-true (length (w ∷ ws)) 0 e))
 
-both : (a b : Bool) → (a && b) ≡ true → (a ≡ true) × (b ≡ true)
-both true b e = (refl, e)
-both false b e = absurd (cc)
-
 times-empty : (q : ℕ) (lane : Lane) → is_empty lane ≡ true → times_in_lane q lane ≡ 0
 times-empty q lane e =
-    let none = both (eqb (length lane.long) 0) (eqb (length lane.short) 0) e in
+    let none = and_parts (eqb (length lane.long) 0) (eqb (length lane.short) 0) e in
     omega (arith, none-empty q lane.long none.0, none-empty q lane.short none.1)
 
 -- ---- all lanes
@@ -191,7 +187,3 @@ on_ok (Err x) P e h = absurd (cc)
 pub some_there : (none : Bool) (number : ℕ) → (IsTrue none ↔ (number ≡ 0)) → none ≡ false → eqb number 0 ≡ false
 some_there true number is e = absurd (cc)
 some_there false number is e = ⊎_elim (λ t. absurd (let no : false ≡ true = is.1 t.1 in cc)) (λ t. t.0) (eqb_tells number 0)
-
-pub is_on_err : {A E : Type 0} (r : Result A E) (P : Type 0) → P → OnErr r P
-is_on_err (Ok x) P h = tt
-is_on_err (Err x) P h = h
