@@ -7,10 +7,10 @@ use Rattle.std.proofs.alloc.Global.TheSendSync as heap
 use Rattle.std.specs.declared.sync.ledger.Ledger as Ledger
 use Rattle.stable_store.specs.declared.store.StableStore as Store
 use Rattle.node_workers.proofs.LifeSendSync as life
-use Rattle.serve_sessions.proofs.ArrivalSendSync as arrival
-use Rattle.serve_sessions.proofs.ConnectionSendSync as connection
-use Rattle.serve_nodes.proofs.HouseSendSync as house
-use Rattle.serve_nodes.proofs.StationSendSync as station
+use Rattle.serve_sessions.proofs.arrival.Arrival.TheSendSync as arrival
+use Rattle.serve_sessions.proofs.connection.Connection.TheSendSync as connection
+use Rattle.serve_nodes.proofs.house.House.TheSendSync as house
+use Rattle.serve_nodes.proofs.station.Station.TheSendSync as station
 use Rattle.node_workers.specs.Begins as Begins
 use Rattle.node_workers.proofs.Crossing.{cluster_sync}
 use Rattle.server.proofs.seat_pool.SeatPool.TheSendSync as pool
