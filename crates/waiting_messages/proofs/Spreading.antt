@@ -1,12 +1,13 @@
 -- At which places an account is up.
-use Rattle.std.proofs.Common.{◌≡◌, ℕ, ◌+◌, ◌<◌, false, true, length, arith, ap, sym, ◌∙◌, List, Some, None, Option, refl, map}
+use Rattle.std.proofs.Common.{◌≡◌, ◌⊎◌, ℕ, ◌+◌, ◌<◌, ◌≤◌, ◌↔◌, Bool, false, true, zero, suc, length, arith, ap, sym, ◌∙◌, List, Some, None, Option, refl, map, add-one, below_more, eqb, inl, inr}
 use Rattle.std.proofs.Math.Nat.{add-sub_cancel}
-use Rattle.std.specs.Prelude.{slice_get, option_map}
+use Rattle.std.specs.Prelude.{IsTrue, slice_get, option_map}
 use Rattle.std.specs.Option.{option_map_or}
+use Rattle.std.proofs.lemmas.Bool.{eqb-true, eq-eqb}
 use Rattle.std.specs.Global.{Vec}
 use Rattle.std.proofs.lemmas.Option.{slice_get-map}
 use Rattle.waiting_messages.specs.Accounts.{is_among}
-use Rattle.waiting_messages.specs.Spreads.{Begins, IsFirstUp, behind, is_up_at}
+use Rattle.waiting_messages.specs.Spreads.{Begins, IsDown, IsFirstUp, behind, is_up_at}
 
 abbrev pub items_of : Vec (List ℕ) → List (List ℕ)
 items_of accounts = accounts.items
@@ -39,3 +40,39 @@ pub one_begins : (spread : List (List (List ℕ))) (home : ℕ) (account : List 
     Begins spread other home account → node ≡ other
 one_begins spread home account node other one two =
     one.is_there ∙ ap (behind (length spread) home) (same_steps spread home account one.steps two.steps one.first two.first) ∙ sym two.is_there
+
+module _ (spread : List (List (List ℕ))) (home : ℕ) (account : List ℕ) where
+  -- the account is first up at one of so many nodes, or at none of them
+  abbrev UpIn : ℕ → Type 0
+  UpIn most =
+      ((steps : ℕ) × IsFirstUp spread home account steps) ⊎
+      ((fewer : ℕ) → fewer < most → is_up_at spread (behind (length spread) home fewer) account ≡ false)
+
+  one_more : (most : ℕ) → most < length spread → UpIn most → (is : Bool) → is_up_at spread (behind (length spread) home most) account ≡ is → UpIn (suc most)
+  one_more most within (inl found) is e = inl found
+  one_more most within (inr none) true e = inl (most, record { within = within; up = e; before = none })
+  one_more most within (inr none) false e = inr (rw (← (add-one most)) (below_more _ most none e))
+
+  up_in : (most : ℕ) → most ≤ length spread → UpIn most
+  up_in zero within = inr (λ fewer below. absurd (omega arith))
+  up_in (suc most) within =
+      one_more most within (up_in most (omega arith)) (is_up_at spread (behind (length spread) home most) account) refl
+
+  nowhere : (node : ℕ) → IsDown spread home account → Begins spread node home account → ⊥
+  nowhere node down begins =
+      let not_up : is_up_at spread (behind (length spread) home begins.steps) account ≡ false = down begins.steps begins.first.within in
+      let up : is_up_at spread (behind (length spread) home begins.steps) account ≡ true = begins.first.up in
+      cc
+
+  test_in : (node : ℕ) → UpIn (length spread) → (is : Bool) × (IsTrue is ↔ Begins spread node home account)
+  test_in node (inl found) =
+      let there : ℕ = behind (length spread) home found.0 in
+      let begins : node ≡ there → Begins spread node home account = λ e. record { steps = found.0; first = found.1; is_there = e } in
+      let same : (it : Begins spread node home account) → it.steps ≡ found.0 = λ it. same_steps spread home account it.steps found.0 it.first found.1 in
+      let is_there : Begins spread node home account → node ≡ there = λ it. it.is_there ∙ ap (behind (length spread) home) (same it) in
+      (eqb node there, (λ h. begins (eqb-true node there h), λ it. eq-eqb node there (is_there it)))
+  test_in node (inr none) = (false, (λ h. absurd (cc), λ it. absurd (nowhere node none it)))
+
+  -- a test tells whether a node begins the attempts
+  pub begins_told : (node : ℕ) → (is : Bool) × (IsTrue is ↔ Begins spread node home account)
+  begins_told node = test_in node (up_in (length spread) (omega arith))

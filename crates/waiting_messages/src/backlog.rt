@@ -1,9 +1,10 @@
 //! Messages that wait for their next attempt.
 
-ghost use Rattle.std.specs.Prelude.{◌≡◌, ◌<◌, ◌≤◌, [], false, true, length, IfOk, OnErr, OnOk};
+ghost use Rattle.std.specs.Prelude.{◌≡◌, ◌<◌, ◌≤◌, [], false, true, count_by, length, IfOk, OnErr, OnOk};
 ghost use Rattle.std.specs.List.{list_any};
 ghost use Rattle.waiting_messages.specs.Backlogs as backlogs;
-ghost use Rattle.waiting_messages.specs.Named.{NamesFew, NamesFirst};
+ghost use Rattle.waiting_messages.specs.Named.{NameableTest, NamesFew, NamesFirst, NamesShares, all_passed_in, firsts_in, share_of};
+ghost use Rattle.waiting_messages.specs.Queues.{all_named};
 
 use crate::attempt::next_due;
 use crate::naming::Naming;
@@ -100,6 +101,7 @@ impl Backlog {
         named: &mut MessageIds,
     ) -> Result<(), AllocError>
         ensures named { NamesFew naming.entry.now.spread.now naming.entry.now.node naming.entry.now.now most account.now self.old.queues named.old named.new }
+        ensures shares { OnOk result (NamesShares naming.entry.now.spread.now naming.entry.now.node naming.entry.now.now most account.now self.old.queues self.new.queues named.old named.new) }
         ensures whole { OnOk result (self.new.is_whole ≡ self.old.is_whole) }
         ensures lack { OnErr result (self.new.is_whole ≡ false) }
     {
@@ -117,7 +119,8 @@ impl Backlog {
 
 /// How many of each node's may be named, if so many may be in all, and some are due.
 fn share(queues: &[Queue], naming: &Naming<'_>, account: &SystemId, most: usize) -> usize
-    ensures { result ≤ most }
+    ensures within { result ≤ most }
+    ensures share { (test : NameableTest naming.entry.now.spread.now naming.entry.now.node naming.entry.now.now account.now) → result ≡ share_of most (count_by test.passes queues.now) }
 {
     let mut among = 0usize;
     for queue in queues {
@@ -140,7 +143,9 @@ fn name_all(
     share: usize,
     named: &mut MessageIds,
 ) -> Result<(), AllocError>
-    ensures { NamesFirst naming.entry.now.spread.now naming.entry.now.node naming.entry.now.now share account.now queues.old.items named.old named.new }
+    ensures first { NamesFirst naming.entry.now.spread.now naming.entry.now.node naming.entry.now.now share account.now queues.old.items named.old named.new }
+    ensures named { OnOk result ((test : NameableTest naming.entry.now.spread.now naming.entry.now.node naming.entry.now.now account.now) → named.new ≡ all_named named.old (firsts_in test.passes naming.entry.now.now share queues.old.items)) }
+    ensures passed { OnOk result ((test : NameableTest naming.entry.now.spread.now naming.entry.now.node naming.entry.now.now account.now) → queues.new.items ≡ all_passed_in test.passes naming.entry.now.now share queues.old.items) }
 {
     for queue in queues.iter_mut() {
         if naming.has(queue, account) {
