@@ -1,5 +1,6 @@
 -- Which messages a node may name, that is of which it may begin the next attempt (own).
-use Rattle.std.specs.Prelude.{◌≡◌, ◌≤◌, ℕ, ◌/◌, ◌==◌, ◌||◌, ◌↔◌, max, Bool, true, List, All, Contains, IsTrue, count_by, filter, map, if◌then◌else◌}
+use Rattle.std.specs.Prelude.{◌≡◌, ◌≤◌, ◌↔◌, ℕ, ◌/◌, ◌==◌, ◌||◌, max, Bool, true, IsTrue, if◌then◌else◌}
+use Rattle.std.specs.Prelude.{List, All, Contains, count_by, filter, map}
 use Rattle.std.specs.List.{flat_map}
 use Rattle.waiting_messages.specs.Spreads.{Begins}
 use Rattle.waiting_messages.specs.Queues.{Queue, all_named, all_passed, first_due, is_due, is_for}
@@ -34,7 +35,7 @@ pub record NameableTest (spread : List (List (List ℕ))) (node now : ℕ) (acco
   pub passes : Queue → Bool
   pub tells : (queue : Queue) → IsTrue (passes queue) ↔ IsNameable spread node now account queue
 
--- How many of each queue are named, if so many may be in all and so many queues have some: equal parts, and one at least; none if none may be or no queue has some.
+-- How many of each queue are named, if so many may be in all, of so many queues: equal parts, and one at least; none if none may be, or there is no queue.
 abbrev pub share_of : ℕ → ℕ → ℕ
 share_of most among = if (among == 0) || (most == 0) then 0 else max (most / among) 1
 
@@ -45,11 +46,11 @@ firsts_in passes now share queues = flat_map (first_due now share) (filter passe
 abbrev pub passed_if : (Queue → Bool) → ℕ → ℕ → Queue → Queue
 passed_if passes now share queue = if passes queue then all_passed now queue (first_due now share queue) else queue
 
--- they are named once more in those queues, and the others stay as they are
+-- they are named once more in those queues; the others stay as they are
 abbrev pub all_passed_in : (Queue → Bool) → ℕ → ℕ → List Queue → List Queue
 all_passed_in passes now share queues = map (passed_if passes now share) queues
 
--- Of each queue that has some its share is named, the first that are due: they are put among the ids, and are named once more in what is left of the queues.
+-- Of each queue that passes its share is named, the first that are due: they are put among the ids, and in what is left of the queues are named once more.
 pub record NamesShares (spread : List (List (List ℕ))) (node now most : ℕ) (account : List ℕ) (queues left : List Queue) (old new : List ℕ) : Type 0 where
   pub test : NameableTest spread node now account
   pub named : new ≡ all_named old (firsts_in test.passes now (share_of most (count_by test.passes queues)) queues)

@@ -91,8 +91,9 @@ impl Backlog {
             .any(|queue| queue.is_for(account) && queue.is_due(now))
     }
 
-    /// Names the messages that go to this account and are due, of which a node begins the attempts, so many at most: of each node's as many, the earliest first, so
-    /// that those of one do not starve those of another. An `Err` is want of memory: some of them are named, and the backlog is not whole.
+    /// Names the messages that go to this account and are due, of which a node begins the attempts: so many at most, or one of each node's if these are more. Of
+    /// each node's it names as many, the earliest first, so that those of one do not starve those of another. An `Err` is want of memory: some of them are named,
+    /// and the backlog is not whole.
     pub fn name(
         &mut self,
         naming: &Naming<'_>,
@@ -101,7 +102,8 @@ impl Backlog {
         named: &mut MessageIds,
     ) -> Result<(), AllocError>
         ensures named { NamesFew naming.entry.now.spread.now naming.entry.now.node naming.entry.now.now most account.now self.old.queues named.old named.new }
-        ensures shares { OnOk result (NamesShares naming.entry.now.spread.now naming.entry.now.node naming.entry.now.now most account.now self.old.queues self.new.queues named.old named.new) }
+        ensures shares { OnOk result (NamesShares naming.entry.now.spread.now naming.entry.now.node naming.entry.now.now most account.now
+            self.old.queues self.new.queues named.old named.new) }
         ensures whole { OnOk result (self.new.is_whole ≡ self.old.is_whole) }
         ensures lack { OnErr result (self.new.is_whole ≡ false) }
     {
@@ -120,7 +122,8 @@ impl Backlog {
 /// How many of each node's may be named, if so many may be in all, and some are due.
 fn share(queues: &[Queue], naming: &Naming<'_>, account: &SystemId, most: usize) -> usize
     ensures within { result ≤ most }
-    ensures share { (test : NameableTest naming.entry.now.spread.now naming.entry.now.node naming.entry.now.now account.now) → result ≡ share_of most (count_by test.passes queues.now) }
+    ensures share { (test : NameableTest naming.entry.now.spread.now naming.entry.now.node naming.entry.now.now account.now) →
+        result ≡ share_of most (count_by test.passes queues.now) }
 {
     let mut among = 0usize;
     for queue in queues {
@@ -144,8 +147,10 @@ fn name_all(
     named: &mut MessageIds,
 ) -> Result<(), AllocError>
     ensures first { NamesFirst naming.entry.now.spread.now naming.entry.now.node naming.entry.now.now share account.now queues.old.items named.old named.new }
-    ensures named { OnOk result ((test : NameableTest naming.entry.now.spread.now naming.entry.now.node naming.entry.now.now account.now) → named.new ≡ all_named named.old (firsts_in test.passes naming.entry.now.now share queues.old.items)) }
-    ensures passed { OnOk result ((test : NameableTest naming.entry.now.spread.now naming.entry.now.node naming.entry.now.now account.now) → queues.new.items ≡ all_passed_in test.passes naming.entry.now.now share queues.old.items) }
+    ensures named { OnOk result ((test : NameableTest naming.entry.now.spread.now naming.entry.now.node naming.entry.now.now account.now) →
+        named.new ≡ all_named named.old (firsts_in test.passes naming.entry.now.now share queues.old.items)) }
+    ensures passed { OnOk result ((test : NameableTest naming.entry.now.spread.now naming.entry.now.node naming.entry.now.now account.now) →
+        queues.new.items ≡ all_passed_in test.passes naming.entry.now.now share queues.old.items) }
 {
     for queue in queues.iter_mut() {
         if naming.has(queue, account) {
