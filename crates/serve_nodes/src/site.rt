@@ -253,9 +253,10 @@ impl Site {
 
     // Attempts.
 
-    /// What a tick is told: the accounts of which a session may receive, and for each of them the messages of which an attempt may begin next, twice as many at
-    /// most as its sessions have places, with those that wait for a worker or for their answer. An account of which none may counts as one of which one may for
-    /// so many seconds, with no message named, so that no attempt that waits for it fails; but not if all messages may begin. An `Err` is want of memory.
+    /// What a tick is told: the accounts of which a session may receive, and for each of them the messages of which an attempt may begin next: twice as many as
+    /// its sessions have places, less those that wait for a worker or for their answer, but one of each home node at least if there is room for any. An account
+    /// of which none may counts as one of which one may for so many seconds, with no message named, so that no attempt that waits for it fails; but not if all
+    /// messages may begin. An `Err` is want of memory.
     pub fn reach(&mut self, naming: &Naming<'_>, linger_seconds: u32) -> Result<Reach, AllocError> {
         let mut up = self.service.accounts_up()?;
         self.presence

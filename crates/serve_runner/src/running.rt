@@ -2,7 +2,7 @@
 
 ghost use Rattle.std.specs.Prelude.{◌≡◌, IfOk};
 ghost use Rattle.server.specs.Actions.{AllBegin};
-ghost use Rattle.server.specs.declared.ending.Ending.TheVariants.{Asked};
+ghost use Rattle.server.specs.declared.Ending.TheVariants.{Asked};
 ghost use Rattle.server.specs.Openings.{cluster_of, kept_at};
 ghost use Rattle.serve_runner.specs.Beginnings.{defaults_in};
 
