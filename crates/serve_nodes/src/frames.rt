@@ -12,12 +12,13 @@ use waiting_requests::{Answer, Reply};
 /// How many numbers there are of which a session may have one.
 const NUMBERS: usize = 256;
 
-/// What is put for the sessions of a node by one call, before it goes onto their connections: frames, the oldest first, of which sessions one is lost, since there
-/// was no memory for what it was to get, and how many receipts and final states were put.
+/// What is put for the sessions of a node by one call, before it goes onto their connections: frames, the oldest first; whether some sessions are lost, since there
+/// was no memory for what they were to get, and which; and how many receipts and final states were put.
 #[derive(Drop)]
 pub(crate) struct Frames {
     alloc: Global,
     pub(crate) frames: Vec<Frame>,
+    pub(crate) has_lost: bool,
     pub(crate) lost: [bool; NUMBERS],
     pub(crate) receipts: u64,
     pub(crate) fates: u64,
@@ -31,6 +32,7 @@ impl Frames {
         Frames {
             alloc,
             frames: Vec::new(alloc),
+            has_lost: false,
             lost: [false; NUMBERS],
             receipts: 0,
             fates: 0,
@@ -76,6 +78,7 @@ impl Outlet for Frames {
     }
 
     fn lose(&mut self, number: u8) {
+        self.has_lost = true;
         self.lost[usize::from(number)] = true;
     }
 

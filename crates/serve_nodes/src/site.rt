@@ -176,11 +176,18 @@ impl Site {
 
     /// What was put goes onto the connections of its sessions, and those are lost for which there was no memory.
     fn hand_over<R: Wait>(&self, rt: &R, frames: Frames) {
-        let Frames { frames, lost, .. } = frames;
+        let Frames {
+            frames,
+            has_lost,
+            lost,
+            ..
+        } = frames;
         for frame in frames {
             self.post(rt, frame);
         }
-        self.lose_those(rt, &lost);
+        if has_lost {
+            self.lose_those(rt, &lost);
+        }
     }
 
     /// The connections of these sessions are lost, since there was no memory for what they were to get.
