@@ -22,8 +22,9 @@ to a file, without a wait for the disk. So it agrees on nothing and tries nothin
 Then come delays: over three nodes a client at each submits ten messages a second, one behind the other, which go to itself. Printed are the median and the 99th
 percentile of the milliseconds from a submit_sm to its response, and to the deliver_sm.
 
-Then what waits for others: at one node in memory 20,000 and 90,000 messages wait for an account that is away, or whose ESME takes ten and answers none. Printed
-are the messages of another account that are delivered a second meanwhile, of 2,000, and the 99th percentile of the answers to their submit_sm.
+Then what waits for others: over two nodes in memory 20,000 and 90,000 messages wait for an account that is away, or whose ESME at node 1 takes ten and answers
+none: half of them at each node, since one alone would have few message_ids left, and start anew. Printed are the messages of another account that are
+delivered a second meanwhile at node 1, of 2,000, and the 99th percentile of the answers to their submit_sm.
 
 Then, or with --idle alone, comes what `serve` takes that nobody is connected to: how often its threads go to sleep in a second, of /proc/PID/task, so how often
 they wake, and its processor time a second.
@@ -239,7 +240,7 @@ def fill(port, count):
 
 def run_beside_waiting(program, folder, count, is_silent):
     """A line of the table of what waits for another account: that is away, or bound and answers nothing."""
-    ports = write_config(folder, 1, False)
+    ports = write_config(folder, 2, False)
     serving = server_of(program, folder, ports)
     try:
         if not serving.start():
@@ -248,7 +249,8 @@ def run_beside_waiting(program, folder, count, is_silent):
             silent.status = None
             if is_silent:
                 silent.bind("load9", "load")
-            fill(ports[0], count)
+            for port in ports:
+                fill(port, count // len(ports))
             client = Client(ports[0], WAITING_MESSAGES, "load1", "load", "155")
             _, delivered = load([client])
         serving.end()
