@@ -1,4 +1,4 @@
-"""Others for `bench/serve.py`, which do a part of what `centre serve` does: the plain server of bench/peer_server, a centre in one Python process, and Kannel,
+"""Others for `bench/serve.py`, which do a part of what `centre serve` does: the servers of bench/peer_server, a centre in one Python process, and Kannel,
 which is an ESME."""
 import os
 import pathlib
@@ -38,26 +38,27 @@ def awaited(test, seconds):
     return test()
 
 
-def plain_server(folder):
-    """Builds the plain server of bench/peer_server into a folder, and gives its file."""
-    binary = folder / "plain"
+def peer_servers(folder):
+    """Builds the servers of bench/peer_server into a folder, with Debian's libsqlite3-dev, and gives their file; none if that fails."""
+    binary = folder / "peer_server"
     command = ["rustc", "--edition", "2024", "-O", "--cfg", "server", "-o", str(binary), str(TOP / "bench" / "peer" / "peer.rs")]
-    subprocess.run(command, check=True)
-    return binary
+    return binary if subprocess.run(command, stderr=subprocess.DEVNULL).returncode == 0 else None
 
 
-class PlainServer:
-    """The plain server, with a node at each of these ports. It has what `bench/serve.py` asks of a Serving."""
+class PeerServer:
+    """A server of bench/peer_server, `plain` or `law`, with a node at each of these ports, over files in a folder, if there is one. It has what
+    `bench/serve.py` asks of a Serving."""
 
-    def __init__(self, binary, ports):
-        self.command, self.process, self.lines = [str(binary), *map(str, ports)], None, []
+    def __init__(self, binary, kind, folder, ports):
+        self.command = [str(binary), kind, str(folder or "memory"), *map(str, ports)]
+        self.kind, self.process, self.lines = kind, None, []
 
     def start(self):
         self.process = subprocess.Popen(self.command, stdin=subprocess.PIPE, stdout=subprocess.PIPE)
         return self.process.stdout.readline() == b"serving\n"
 
     def said(self):
-        return "the plain server says nothing"
+        return f"{self.kind} says nothing"
 
     def end(self):
         self.process.stdin.close()

@@ -3,6 +3,7 @@
 costs; and beside it what others do that do a part of its work.
 
     python3 bench/serve.py PROGRAM [MESSAGES [CENTRE]]
+    python3 bench/serve.py --files PROGRAM [MESSAGES]
     python3 bench/serve.py --idle PROGRAM
     python3 bench/serve.py --held PROGRAM
 
@@ -13,8 +14,8 @@ of a second; and how many times a second a plain loop writes a page to a file be
 after it; and how many parts of the journal were closed meanwhile, with the longest pause. Clients, server and loop share the processors. A run takes two
 minutes at most, and then says what was left.
 
-In the same table, in memory: the plain server of bench/peer_server, over the same nodes, if rustc is there, with the same clients. And others, with one client
-and the same messages: CENTRE, a Python file of a message centre in one process, run as `python3 CENTRE PORT
+In the same table, by turns and with the same clients: `law` and `plain`, the two servers of bench/peer_server over the same nodes, if rustc and Debian's
+libsqlite3-dev are there. And others, with one client and the same messages: CENTRE, a Python file of a message centre in one process, run as `python3 CENTRE PORT
 SECONDS`, which does the same for its client, and keeps nothing, neither on a disk nor on other nodes. Kannel (Debian's `kannel`, if it is there) is no centre
 but an ESME: what it is given are deliver_sm, ten open at a time, it answers each once it is in its queue, and hands it on by HTTP; with a store it writes each
 to a file, without a wait for the disk. So it agrees on nothing and tries nothing again.
@@ -31,6 +32,9 @@ they wake, and its processor time a second.
 
 Last come the fdatasync and fsync that `serve` itself makes for a message, by strace, in runs of their own (if strace is there).
 
+With --files alone it prints what the three servers deliver over three nodes over files, five times by turns, with one client at each node and with ten, so with
+30 and with 300 messages in flight, and the medians; and the fdatasync of each for a message, in runs of their own.
+
 With --held alone it prints what `serve` holds over three nodes in memory once 1,000, 6,000, 24,000 and 50,000 messages of one run were submitted and delivered:
 the memory of the process, and its peak so far, of /proc/PID/status, what a message took more since the line before, and the processor time of a message since
 then. The journal holds up to 150,000 entries, whatever has ended, so from one line to the next the memory rises or falls by what these take. malloc keeps
@@ -41,6 +45,7 @@ import os
 import pathlib
 import re
 import shutil
+import statistics
 import sys
 import tempfile
 import time
@@ -49,7 +54,7 @@ TOP = pathlib.Path(__file__).resolve().parent.parent
 sys.path[:0] = [str(TOP / "tools" / "clients"), str(TOP / "bench")]
 
 import pdus
-from beside import BEARERBOX, OtherCentre, PlainServer, fed_kannel, plain_server, processor_seconds
+from beside import BEARERBOX, OtherCentre, PeerServer, fed_kannel, peer_servers, processor_seconds
 from plain_esme import Ended, Esme, wait
 from ports import free_ports
 from serving import Serving
@@ -58,6 +63,7 @@ WINDOW = 10
 MESSAGES, MOST_MESSAGES = 1_000, 50_000
 SECONDS = 120
 NODES = (1, 3, 9)
+FILE_NODES, FILE_CLIENTS, TURNS = 3, (1, 10), 5
 DELAY_NODES, DELAY_SECONDS = 3, 20
 WAITING, WAITING_MESSAGES = (0, 20_000, 90_000), 2_000
 SYNCS, SYNC_SECONDS = 500, 2
@@ -66,6 +72,8 @@ HELD_NODES, HELD, HELD_SECONDS, HELD_REST = 3, (1_000, 6_000, 24_000, 50_000), 1
 MEMORY = re.compile(r"^(VmHWM|VmRSS):\s+(\d+) kB", re.M)
 SLEEPS = re.compile(r"^voluntary_ctxt_switches:\s+(\d+)", re.M)
 SYNC = re.compile(r"\b(?:fdatasync|fsync)\(")
+HEAD = """| What | Stores | Messages | Submits answered a second | Delivered a second | Processor time a message | fdatasync a second | Parts closed |
+|---|---|---|---|---|---|---|---|"""
 PART = re.compile(r"part \d+: .*, closed in (\d+) ms")
 
 
@@ -163,7 +171,7 @@ def load(clients, seconds=SECONDS):
         now = time.monotonic() - begun
         if "answered" not in moments and all(client.answered == client.wanted for client in clients):
             moments["answered"] = now
-        if "delivered" not in moments and all(client.delivered() >= client.wanted - client.refused for client in clients):
+        if "delivered" not in moments and sum(client.delivered() - client.wanted + client.refused for client in clients) >= 0:
             moments["delivered"] = now
         return len(moments) == 2
     wait(esmes, is_done, seconds)
@@ -176,9 +184,10 @@ def parts_of(serving):
     return f"{len(pauses)}, {max(pauses)} ms" if pauses else "0"
 
 
-def clients_of(ports, messages):
-    """A client at each node, with its share of the messages."""
-    return [Client(port, messages // len(ports), f"load{node}", "load", f"{node}55") for node, port in enumerate(ports, 1)]
+def clients_of(ports, messages, each=1):
+    """So many clients at each node, with their shares of the messages."""
+    share = messages // len(ports) // each
+    return [Client(port, share, f"load{node}", "load", f"{node}55") for node, port in enumerate(ports, 1) for _ in range(each)]
 
 
 def rate(count, seconds):
@@ -189,24 +198,28 @@ def put(*cells):
     print("| " + " | ".join(map(str, cells)) + " |", flush=True)
 
 
-def server_of(program, folder, ports):
-    """The server that a file has: that of `serve`, or the plain one."""
-    return PlainServer(program, ports) if program.name == "plain" else Serving(program, folder / "centre.toml", folder)
+class Server:
+    """A program that serves: `centre serve`, or one of bench/peer_server by its kind."""
+
+    def __init__(self, program, kind="serve"):
+        self.program, self.kind = program, kind
+
+    def at(self, folder, ports, over_files=False):
+        """The server that a folder has the configuration of."""
+        if self.kind == "serve":
+            return Serving(self.program, folder / "centre.toml", folder)
+        return PeerServer(self.program, self.kind, folder if over_files else None, ports)
 
 
-def name_of(program):
-    return "plain" if program.name == "plain" else "serve"
-
-
-def run(program, folder, nodes, over_files, messages):
-    """A line of the table."""
+def run(server, folder, nodes, over_files, messages, each=1):
+    """A line of the table; the messages delivered a second, and the processor time of each, in milliseconds."""
     ports = write_config(folder, nodes, over_files)
     before = syncs_a_second(folder)
-    serving = server_of(program, folder, ports)
+    serving = server.at(folder, ports, over_files)
     try:
         if not serving.start():
-            sys.exit(f"{name_of(program)} does not serve: {serving.said()}")
-        clients = clients_of(ports, messages)
+            sys.exit(f"{server.kind} does not serve: {serving.said()}")
+        clients = clients_of(ports, messages, each)
         used = processor_seconds(serving.process.pid)
         answered, delivered = load(clients)
         used = processor_seconds(serving.process.pid) - used
@@ -217,12 +230,13 @@ def run(program, folder, nodes, over_files, messages):
         serving.kill()
     count, refused = sum(client.wanted for client in clients), sum(client.refused for client in clients)
     syncs = f"{before:,.0f} and {syncs_a_second(folder):,.0f}"
-    what = f"{name_of(program)}, {nodes} node{'s' * (nodes > 1)}"
+    what = f"{server.kind}, {nodes} node{'s' * (nodes > 1)}" + (each > 1) * f", {each} clients at each"
     rates = [rate(count, answered), rate(count, delivered), f"{1e3 * used / count:.2f} ms"]
     put(what, "files" if over_files else "memory", f"{count:,}", *rates, syncs, parts_of(serving))
     if refused or status != 0 or not delivered:
         came = sum(client.delivered() for client in clients)
         print(f"   {refused} submit_sm were refused, {came} messages came, {serving.said()}", flush=True)
+    return count / delivered if delivered else 0, 1e3 * used / count
 
 
 def fill(port, count):
@@ -238,13 +252,13 @@ def fill(port, count):
     feeder.esme.close()
 
 
-def run_beside_waiting(program, folder, count, is_silent):
+def run_beside_waiting(server, folder, count, is_silent):
     """A line of the table of what waits for another account: that is away, or bound and answers nothing."""
     ports = write_config(folder, 2, False)
-    serving = server_of(program, folder, ports)
+    serving = server.at(folder, ports)
     try:
         if not serving.start():
-            sys.exit(f"{name_of(program)} does not serve: {serving.said()}")
+            sys.exit(f"{server.kind} does not serve: {serving.said()}")
         with Esme(ports[0]) as silent:
             silent.status = None
             if is_silent:
@@ -260,7 +274,7 @@ def run_beside_waiting(program, folder, count, is_silent):
         serving.kill()
     delays = sorted(client.delays)
     late = f"{delays[len(delays) * 99 // 100]:.1f}" if delays else "none came"
-    put(name_of(program), f"{count:,}", "silent" if is_silent else "away", rate(WAITING_MESSAGES, delivered), late)
+    put(server.kind, f"{count:,}", "silent" if is_silent else "away", rate(WAITING_MESSAGES, delivered), late)
 
 
 def submit_steadily(clients, seconds):
@@ -283,13 +297,13 @@ def submit_steadily(clients, seconds):
     wait(esmes, is_done, SECONDS)
 
 
-def run_steadily(program, folder, over_files):
+def run_steadily(server, folder, over_files):
     """A line of the table of delays."""
     ports = write_config(folder, DELAY_NODES, over_files)
-    serving = server_of(program, folder, ports)
+    serving = server.at(folder, ports, over_files)
     try:
         if not serving.start():
-            sys.exit(f"{name_of(program)} does not serve: {serving.said()}")
+            sys.exit(f"{server.kind} does not serve: {serving.said()}")
         clients = [Steady(port, f"load{node}", f"{node}55") for node, port in enumerate(ports, 1)]
         submit_steadily(clients, DELAY_SECONDS)
         serving.end()
@@ -302,7 +316,7 @@ def run_steadily(program, folder, over_files):
     for moments in ("answered", "delivered"):
         delays = sorted(delay for client in clients for delay in client.delays(getattr(client, moments)))
         cells += [f"{delays[len(delays) // 2]:.1f}", f"{delays[len(delays) * 99 // 100]:.1f}"] if len(delays) == count else ["not all in time"] * 2
-    put(name_of(program), "files" if over_files else "memory", f"{count:,}", *cells)
+    put(server.kind, "files" if over_files else "memory", f"{count:,}", *cells)
 
 
 def run_other(file, messages):
@@ -327,23 +341,46 @@ def run_kannel(folder, messages, in_file):
     put("Kannel, as an ESME", store, f"{messages:,}", rate(messages, answered), rate(messages, delivered), f"{1e3 * used / messages:.2f} ms", "", "")
 
 
-def count_syncs(program, folder, nodes, messages):
-    """The line of the fdatasync and fsync that serve makes for a message."""
+def count_syncs(server, folder, nodes, messages, each=1):
+    """The line of the fdatasync and fsync that a server makes for a message."""
     ports, told = write_config(folder, nodes, True), folder / "strace"
-    serving = Serving(program, folder / "centre.toml", folder)
+    serving = server.at(folder, ports, True)
     serving.command[:0] = ["strace", "-f", "-qq", "-e", "trace=fdatasync,fsync", "-o", str(told)]
 
     def calls():
         return len(SYNC.findall(told.read_text()))
     try:
         if not serving.start():
-            sys.exit(f"serve does not serve under strace: {serving.said()}")
-        clients = clients_of(ports, messages)
+            sys.exit(f"{server.kind} does not serve under strace: {serving.said()}")
+        clients = clients_of(ports, messages, each)
         count, before = sum(client.wanted for client in clients), calls()
         load(clients)
-        put(nodes, f"{count:,}", f"{(calls() - before) / count:.2f}")
+        put(server.kind, nodes, nodes * each * WINDOW, f"{count:,}", f"{(calls() - before) / count:.2f}")
     finally:
         serving.end()
+
+
+def count_all_syncs(runs):
+    """The table of fdatasync, of runs with a server, nodes, messages, and clients at each."""
+    if not shutil.which("strace"):
+        sys.exit("strace is not here, so the fdatasync are not counted")
+    print("\n| What | Nodes, over files | Messages in flight | Messages | fdatasync and fsync a message |\n|---|---|---|---|---|", flush=True)
+    for one in runs:
+        in_a_folder(lambda folder: count_syncs(one[0], folder, *one[1:]))
+
+
+def run_files(servers, messages):
+    """The tables of three nodes over files, with few and with many messages in flight."""
+    print(HEAD, flush=True)
+    for each in FILE_CLIENTS:
+        found = {server.kind: [] for server in servers}
+        for _ in range(TURNS):
+            for server in servers:
+                in_a_folder(lambda folder: found[server.kind].append(run(server, folder, FILE_NODES, True, messages, each)))
+        for kind, figures in found.items():
+            delivered, used = (statistics.median(figure) for figure in zip(*figures))
+            put(f"{kind}, median", "files", f"{FILE_NODES * each * WINDOW} in flight", "", f"{delivered:,.0f}", f"{used:.2f} ms", "", "")
+    count_all_syncs((server, FILE_NODES, messages, each) for each in FILE_CLIENTS for server in servers)
 
 
 def sleeps(pid):
@@ -354,10 +391,10 @@ def sleeps(pid):
 
 def run_idle(program, folder, nodes):
     """A line of the table of an idle server."""
-    serving = server_of(program, folder, write_config(folder, nodes, False))
+    serving = Server(program).at(folder, write_config(folder, nodes, False))
     try:
         if not serving.start():
-            sys.exit(f"{name_of(program)} does not serve: {serving.said()}")
+            sys.exit(f"serve does not serve: {serving.said()}")
         time.sleep(BEFORE_IDLE)
         pid = serving.process.pid
         woken, used = sleeps(pid), processor_seconds(pid)
@@ -387,10 +424,10 @@ def run_held(program, folder):
     arenas = os.environ.get("MALLOC_ARENA_MAX", "not set")
     print(f"| Messages that have ended, MALLOC_ARENA_MAX {arenas} | Memory | Peak | More, a message | Processor time a message | Parts closed |\n|---|---|---|---|---|---|")
     ports = write_config(folder, HELD_NODES, False)
-    serving = server_of(program, folder, ports)
+    serving = Server(program).at(folder, ports)
     try:
         if not serving.start():
-            sys.exit(f"{name_of(program)} does not serve: {serving.said()}")
+            sys.exit(f"serve does not serve: {serving.said()}")
         pid, clients, ended, held = serving.process.pid, clients_of(ports, 0), 0, memory_of(serving.process.pid)[0]
         for count in HELD:
             used = processor_seconds(pid)
@@ -425,6 +462,7 @@ def main():
     reader.add_argument("program", metavar="PROGRAM", type=pathlib.Path)
     reader.add_argument("messages", metavar="MESSAGES", type=int, nargs="?", default=MESSAGES)
     reader.add_argument("centre", metavar="CENTRE", nargs="?")
+    reader.add_argument("--files", action="store_true", help="measure three nodes over files alone")
     reader.add_argument("--idle", action="store_true", help="measure an idle server alone")
     reader.add_argument("--held", action="store_true", help="measure what is held behind messages that have ended alone")
     given = reader.parse_args()
@@ -435,36 +473,36 @@ def main():
         return in_a_folder(lambda folder: run_held(program, folder))
     if not WINDOW <= messages <= MOST_MESSAGES:
         reader.error(f"MESSAGES is {WINDOW} to {MOST_MESSAGES}")
-    print("| What | Stores | Messages | Submits answered a second | Delivered a second | Processor time a message | fdatasync a second | Parts closed |")
-    print("|---|---|---|---|---|---|---|---|", flush=True)
-    beside = pathlib.Path(tempfile.mkdtemp(prefix="serve-"))
-    plain = plain_server(beside) if shutil.which("rustc") else None
+    in_a_folder(lambda beside: run_all(program, messages, beside, given))
+
+
+def run_all(program, messages, beside, given):
+    """All tables but those that are printed alone, or those of files."""
+    peers = peer_servers(beside) if shutil.which("rustc") else None
+    serve = Server(program)
+    servers = [serve, Server(peers, "law"), Server(peers, "plain")] if peers else [serve]
+    if given.files:
+        return run_files(servers, messages)
+    print(HEAD, flush=True)
     for nodes in NODES:
         for over_files in (False, True):
-            in_a_folder(lambda folder: run(program, folder, nodes, over_files, messages))
-        if plain:
-            in_a_folder(lambda folder: run(plain, folder, nodes, False, messages))
+            for server in servers:
+                in_a_folder(lambda folder: run(server, folder, nodes, over_files, messages))
     if given.centre:
         run_other(given.centre, messages)
     for in_file in (False, True) if BEARERBOX.exists() else ():
         in_a_folder(run_kannel, messages, in_file)
     print("\n| What | Stores | Messages | To the response, ms: median | 99 % | To the deliver_sm, ms: median | 99 % |\n|---|---|---|---|---|---|---|", flush=True)
     for over_files in (False, True):
-        in_a_folder(lambda folder: run_steadily(program, folder, over_files))
-    if plain:
-        in_a_folder(lambda folder: run_steadily(plain, folder, False))
+        for server in servers:
+            in_a_folder(lambda folder: run_steadily(server, folder, over_files))
     print("\n| What | Waiting | Their account is | Delivered a second | Answers, 99 %, ms |\n|---|---|---|---|---|", flush=True)
-    for server in (program, plain) if plain else (program,):
+    for server in servers:
         for count in WAITING:
             for is_silent in (False, True) if count else (False,):
                 in_a_folder(lambda folder: run_beside_waiting(server, folder, count, is_silent))
-    shutil.rmtree(beside)
     run_all_idle(program)
-    if not shutil.which("strace"):
-        sys.exit("strace is not here, so the fdatasync of serve are not counted")
-    print("\n| Nodes, over files | Messages | fdatasync and fsync of serve a message |\n|---|---|---|", flush=True)
-    for nodes in NODES:
-        in_a_folder(lambda folder: count_syncs(program, folder, nodes, messages))
+    count_all_syncs((serve, nodes, messages) for nodes in NODES)
 
 
 if __name__ == "__main__":

@@ -1,5 +1,5 @@
 //! A message centre by the same rules as `centre script`, as a plain Rust program without proofs. The README says which lines and PDUs it has. With
-//! `--cfg server` it is the server of `bench/peer_server` over the same nodes.
+//! `--cfg server` it is the servers of `bench/peer_server` over the same nodes.
 #![cfg_attr(server, allow(dead_code))]
 use std::collections::{BTreeMap, BTreeSet, VecDeque};
 #[cfg(not(server))]
@@ -12,7 +12,7 @@ use std::str::FromStr;
 use std::sync::Arc as Rc;
 
 #[cfg(server)]
-#[path = "../peer_server/plain.rs"]
+#[path = "../peer_server/server.rs"]
 mod server;
 
 const START: u32 = 946_684_800;
@@ -28,7 +28,7 @@ const PLACES: usize = 19;
 #[cfg(not(server))]
 const ACCOUNTS: [(&[u8], &[u8]); 2] = [(b"sme1", b"pw1"), (b"sme2", b"pw2")];
 #[cfg(server)]
-use server::ACCOUNTS;
+use server::{ACCOUNTS, put_end, put_pdu, route};
 const PASSED: [u16; 4] = [0x0204, 0x020C, 0x020E, 0x020F];
 const MESSAGE_PAYLOAD: u16 = 0x0424;
 const NO_ANSWER: Kind = Kind::Failed(997);
@@ -56,18 +56,23 @@ const QUERY_FAILED: u32 = 0x67;
 const THROTTLED: u32 = 0x58;
 
 #[derive(Clone, Copy, PartialEq)]
+#[cfg_attr(server, derive(Eq))]
 enum Kind { Taken, Attempt(u32), Failed(u16), Fate(u8, u16), Told }
 
 #[derive(Clone, Copy)]
+#[cfg_attr(server, derive(PartialEq, Eq))]
 struct Decree { author: u8, moment: u32, kind: Kind }
 
+#[cfg_attr(server, derive(PartialEq, Eq))]
 struct Address { ton: u8, npi: u8, digits: Vec<u8> }
 
+#[cfg_attr(server, derive(PartialEq, Eq))]
 struct Message {
     submitter: usize, target: usize, service: Vec<u8>, source: Address, destination: Address, esm_class: u8, protocol: u8, priority: u8,
     registered: u8, coding: u8, schedule: u32, expiry: u32, text: Vec<u8>, passed: Vec<u8>,
 }
 
+#[cfg_attr(server, derive(PartialEq, Eq))]
 struct Chain { id: u64, message: Rc<Message>, decrees: Vec<Decree> }
 
 impl Chain {
@@ -101,8 +106,10 @@ impl Chain {
 }
 
 #[derive(Clone)]
+#[cfg_attr(server, derive(PartialEq, Eq))]
 struct Vote { ballot: u64, chain: Rc<Chain> }
 
+#[cfg_attr(server, derive(Clone, PartialEq, Eq))]
 enum Packet {
     Prepare { from: u8, id: u64, place: usize, ballot: u64 },
     Promise { from: u8, id: u64, place: usize, ballot: u64, vote: Option<Vote> },
@@ -125,7 +132,12 @@ impl Packet {
 struct Reply { ticket: u64, id: u64, status: u32, shown: Option<Rc<Chain>> }
 
 #[derive(Default)]
-struct Out { packets: Vec<Packet>, replies: Vec<Reply>, receipts: Vec<Rc<Chain>> }
+struct Out {
+    packets: Vec<Packet>, replies: Vec<Reply>, receipts: Vec<Rc<Chain>>,
+    /// The slots whose records changed.
+    #[cfg(server)]
+    saved: Vec<(u64, usize)>,
+}
 
 enum Request { Submit(Rc<Chain>), Query { account: usize, source: Vec<u8> }, Cancel { account: usize, source: Vec<u8>, destination: Vec<u8> } }
 
@@ -315,6 +327,8 @@ impl Node {
             out.packets.push(Packet::Refused { from, id, place, ballot, promised: record.promised });
         } else {
             record.promised = ballot;
+            #[cfg(server)]
+            out.saved.push((id, place));
             out.packets.push(Packet::Promise { from, id, place, ballot, vote: record.vote.clone() });
         }
     }
@@ -326,6 +340,8 @@ impl Node {
             out.packets.push(Packet::Refused { from, id, place, ballot, promised: record.promised });
         } else {
             *record = Record { place, promised: ballot, vote: Some(vote.clone()) };
+            #[cfg(server)]
+            out.saved.push((id, place));
             out.packets.push(Packet::Voted { from, vote: vote.clone() });
         }
     }
@@ -577,9 +593,6 @@ fn put_pdu(text: &mut Vec<u8>, (at, number): (usize, u8), [command, status, sequ
 /// A line with the end of a session.
 #[cfg(not(server))]
 fn put_end(text: &mut Vec<u8>, (at, number): (usize, u8)) { writeln!(text, "gone {} {number}", at + 1).unwrap() }
-
-#[cfg(server)]
-use server::{put_end, put_pdu, route};
 
 fn put_text(body: &mut Vec<u8>, text: &[u8]) {
     body.extend_from_slice(text);

@@ -16,7 +16,7 @@ KEY = re.compile(r"\*(\w+)\*")
 PROMISE = re.compile(r"promise: (\w+)\n")
 PART = "\u21b3"
 # How many edits of a promise its row names.
-MOST_NAMED = 2
+MOST_NAMED = 1
 # Crates whose check takes more than 200 seconds of processor time: the gate tries one edit of each at most, and asks for none.
 DEAR = {
     "config", "config_warnings", "esme_service", "fate_chain", "journal_parts", "node_core", "node_kept", "node_parts", "node_stores", "node_threads",
