@@ -40,12 +40,12 @@ pub record IsCut (k : Holding) (input : Input) (unfinished : Option Sent) (after
   pub halted : (left : Records) → after.may_hold left → IsUnfinished k left unfinished
 
 after_step : (k : Holding) (input : Input) (step : Step) (left : Records) → IsStepFor k input step →
-    AreSame left (changed_by step.change (records_in k)) → AreSame left (Left k input)
+    AreSame left (changed_by step.next.change (records_in k)) → AreSame left (Left k input)
 after_step k input step left is changed =
     record { each = λ slot. changed.each slot ∙ sym (is.is.saves slot) ∙ ap (λ (kept : Kept). kept.records slot) is.is.kept }
 
 found_after : (k : Holding) (input : Input) (step : Step) (before after : Stored) → IsStepFor k input step → before.holds (records_in k) →
-    ((records left : Records) → before.holds records → before.may_hold left → AreSame left records) → LeavesAny step.change before after →
+    ((records left : Records) → before.holds records → before.may_hold left → AreSame left records) → LeavesAny step.next.change before after →
     (left : Records) → after.may_hold left → AreSame left (records_in k) ⊎ AreSame left (Left k input)
 found_after k input step before after is holds settled leaves left found = elim (leaves.records left found) [
   | inl was ↦ inl (settled (records_in k) left holds was)
@@ -53,8 +53,8 @@ found_after k input step before after is holds settled leaves left found = elim 
 ]
 
 cut_with : (k : Holding) (input : Input) (step : Step) (unfinished : Option Sent) (before after : Stored) (change : Option Change) →
-    step.change ≡ change → change ≢ None → IsPrepared k input step unfinished → before.holds (records_in k) →
-    ((records left : Records) → before.holds records → before.may_hold left → AreSame left records) → LeavesAny step.change before after →
+    step.next.change ≡ change → change ≢ None → IsPrepared k input step unfinished → before.holds (records_in k) →
+    ((records left : Records) → before.holds records → before.may_hold left → AreSame left records) → LeavesAny step.next.change before after →
     IsCut k input unfinished after
 cut_with k input step unfinished before after None is some prepared holds settled leaves = absurd (some refl)
 cut_with k input step unfinished before after (Some change) is some prepared holds settled leaves =
@@ -76,10 +76,10 @@ cut_with k input step unfinished before after (Some change) is some prepared hol
 
 pub cut : (k was : Holding) (input given : Input) (step : Step) (unfinished : Option Sent) (before after : Stored) → was ≡ k → given ≡ input →
     IsPrepared was given step unfinished → before.holds (records_in k) →
-    ((records left : Records) → before.holds records → before.may_hold left → AreSame left records) → step.change ≢ None →
-    LeavesAny step.change before after → IsCut k input unfinished after
+    ((records left : Records) → before.holds records → before.may_hold left → AreSame left records) → step.next.change ≢ None →
+    LeavesAny step.next.change before after → IsCut k input unfinished after
 cut k was input given step unfinished before after same_kept same_input prepared holds settled some leaves =
-    cut_with k input step unfinished before after step.change refl some
+    cut_with k input step unfinished before after step.next.change refl some
     (subst (λ (i : Input). IsPrepared k i step unfinished) same_input
     (subst (λ (h : Holding). IsPrepared h given step unfinished) same_kept prepared)) holds settled leaves
 

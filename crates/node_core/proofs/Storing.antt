@@ -26,8 +26,8 @@ use Rattle.node_core.proofs.Unsaved.{saves_for}
 some_is_none : {A : Type 0} (x : A) → Some x ≡ None → ⊥
 some_is_none x same = true≢false (ap is_some same)
 
-unchanged : (k : Holding) (input : Input) (step : Step) (packet : Option Sent) (change : Option Change) → step.change ≡ change →
-    IsPrepared k input step packet → packet_in input ≡ None → step.change ≡ None
+unchanged : (k : Holding) (input : Input) (step : Step) (packet : Option Sent) (change : Option Change) → step.next.change ≡ change →
+    IsPrepared k input step packet → packet_in input ≡ None → step.next.change ≡ None
 unchanged k input step packet None is prepared none = is
 unchanged k input step packet (Some change) is prepared none =
     let from = saves_for k input step packet change prepared is in
@@ -47,21 +47,21 @@ own_then k new step is own = record {
 
 -- a step that saves nothing leaves what is stored
 pub saves_none : (k was : Holding) (input given : Input) (step : Step) (packet : Option Sent) (stored : Stored) → was ≡ k → given ≡ input →
-    IsPrepared was given step packet → packet_in input ≡ None → SavesAny step.change stored stored
+    IsPrepared was given step packet → packet_in input ≡ None → SavesAny step.next.change stored stored
 saves_none k was input given step packet stored same_kept same_input prepared none =
     let now : IsPrepared k input step packet =
     subst (λ (i : Input). IsPrepared k i step packet) same_input (subst (λ (h : Holding). IsPrepared h given step packet) same_kept prepared) in
-    subst (λ (c : Option Change). SavesAny c stored stored) (sym (unchanged k input step packet step.change refl now none)) (λ records holds. holds)
+    subst (λ (c : Option Change). SavesAny c stored stored) (sym (unchanged k input step packet step.next.change refl now none)) (λ records holds. holds)
 
 -- what is stored is what it keeps, as before the step
 pub stored_once : (k was new : Holding) (input given : Input) (step : Step) (packet unfinished : Option Sent) (before after : Stored) → was ≡ k →
-    given ≡ input → IsPrepared was given step packet → IsInstalled k step.next new → SavesAny step.change before after →
+    given ≡ input → IsPrepared was given step packet → IsInstalled k step.next new → SavesAny step.next.change before after →
     ((records left : Records) → after.holds records → after.may_hold left → AreSame left records) →
     IsStored false before unfinished k → IsStored false after unfinished new
 stored_once k was new input given step packet unfinished before after same_kept same_input prepared is saves settled old =
     let now : IsPrepared k input step packet =
     subst (λ (i : Input). IsPrepared k i step packet) same_input (subst (λ (h : Holding). IsPrepared h given step packet) same_kept prepared) in
-    let records : records_in new ≡ changed_by step.change (records_in k) =
+    let records : records_in new ≡ changed_by step.next.change (records_in k) =
     fun_ext (λ slot. ap (λ (es : List (ℕ × Filed)). records_of es slot) is.entries ∙ now.is.is.saves slot) in
     let holds : after.holds (records_in new) = subst after.holds (sym records) (saves (records_in k) (old.saved refl)) in
     record {

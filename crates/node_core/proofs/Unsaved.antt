@@ -66,7 +66,7 @@ request_leaves setup k (Err status) = refl
 -- ---- a change
 
 -- a step with a change leaves other records
-pub altered : (k : Holding) (to : Stepped) (step : Step) (change : Change) → IsStep k to step → step.change ≡ Some change →
+pub altered : (k : Holding) (to : Stepped) (step : Step) (change : Change) → IsStep k to step → step.next.change ≡ Some change →
     ((slot : Slot) → to.kept.records slot ≡ records_of k.messages.entries slot) → ⊥
 altered k to step change is some same =
     let records = records_of k.messages.entries in
@@ -86,7 +86,7 @@ pub record IsOfPacket (input : Input) (unfinished : Option Sent) : Type 0 where
   pub is : unfinished ≡ Some packet
 
 pub saves_for : (k : Holding) (input : Input) (step : Step) (packet : Option Sent) (change : Change) → IsPrepared k input step packet →
-    step.change ≡ Some change → IsOfPacket input packet
+    step.next.change ≡ Some change → IsOfPacket input packet
 saves_for k (given.Packet packet) step unfinished change is some = record { packet = packet; came = refl; is = is.came }
 saves_for k (given.Request account request) step unfinished change is some =
     let judged = admitted (door_at k.setup (kept_of k)) (next_id k.setup (kept_of k)) account request in
@@ -102,10 +102,10 @@ saves_for k (given.Tick moment reach) step unfinished change is some =
 
 -- a step that is to be saved is that of a packet
 pub saved_for : (k : Holding) (input came : Input) (step : Step) (packet : Option Sent) → came ≡ input → IsPrepared k came step packet →
-    step.change ≢ None → IsSome (packet_in input)
-saved_for k input came step packet same prepared some = subst (λ (i : Input). IsSome (packet_in i)) same (by_change step.change refl)
+    step.next.change ≢ None → IsSome (packet_in input)
+saved_for k input came step packet same prepared some = subst (λ (i : Input). IsSome (packet_in i)) same (by_change step.next.change refl)
   where
-    by_change : (change : Option Change) → step.change ≡ change → IsSome (packet_in came)
+    by_change : (change : Option Change) → step.next.change ≡ change → IsSome (packet_in came)
     by_change None is = absurd (some is)
     by_change (Some change) is =
         let from = saves_for k came step packet change prepared is in

@@ -122,12 +122,8 @@ impl<S: StableStore> Node<S> {
     {
         self.judge()?;
         let Pending { step, packet, .. } = pending;
-        let Step {
-            outputs,
-            change,
-            next,
-        } = step;
-        match save(&mut self.store, &change) {
+        let Step { outputs, next } = step;
+        match save(&mut self.store, &next.change) {
             Ok(()) => {
                 self.kept.install(next);
                 Ok(outputs)
@@ -165,7 +161,7 @@ impl<S: StableStore> Node<S> {
         ensures store { self.new.store ≡ self.old.store }
     {
         let Pending { step, .. } = pending;
-        let Step { outputs, next, .. } = step;
+        let Step { outputs, next } = step;
         self.kept.install(next);
         outputs
     }

@@ -101,14 +101,12 @@ module _ (k : Holding) (request : Request) (new : Box Waits) (is : held_of (box_
       IsStep k (on_arrival k.setup (kept_of k) request)
       (record {
         outputs = outputs;
-        change = step0.change;
         next = record step0.next
             { serial = next_serial request k.serial; given = suc k.given; queue = changes.Push new };
       })
   arrives start step0 outputs starts free numbered base gives =
       let after : Step = record {
         outputs = outputs;
-        change = step0.change;
         next = record step0.next
             { serial = next_serial request k.serial; given = suc k.given; queue = changes.Push new };
       } in

@@ -1,7 +1,7 @@
 -- The messages that the code keeps, as a list of the model's, and their records.
-use Rattle.std.proofs.Common.{◌≡◌, ℕ, Bool, true, false, cond, List, [], ◌∷◌, map, Option, Some, refl, sym, ap, subst, ◌∙◌, inl, inr, arith}
+use Rattle.std.proofs.Common.{◌≡◌, ℕ, Bool, true, false, cond, List, [], ◌∷◌, map, Option, Some, refl, sym, ap, subst, ◌∙◌, ◌<◌, inl, inr, arith}
 use Rattle.std.specs.Prelude.{◌==◌, option_map, if◌then◌else◌}
-use Rattle.std.specs.Map.{lookup}
+use Rattle.std.specs.Map.{keys_of, lookup}
 use Rattle.std.specs.Ordering.{nat_cmp, match_ordering}
 use Rattle.std.specs.declared.cmp.Ordering.{Ordering}
 use Rattle.std.specs.declared.cmp.Ordering.TheVariants.{Less, Equal, Greater}
@@ -19,6 +19,9 @@ use Rattle.synod_acceptor.specs.Records.{record_at}
 use Rattle.node_model.proofs.Keys.{same_key}
 use Rattle.node_parts.specs.declared.message.Message.{Message as Filed}
 use Rattle.node_parts.specs.Messages.{IsOf, message_of}
+use Rattle.node_parts.specs.Rising.{AreRising}
+use Rattle.node_parts.proofs.Living.{listed_key}
+use Rattle.node_parts.proofs.Rising.{each}
 use Rattle.node_kept.specs.Keeping.{AreOf, acceptor_in, filed_as, records_of}
 
 -- ---- what is kept of an id
@@ -50,6 +53,26 @@ message_put (e ∷ es) id m = at_order (nat_cmp id e.0) refl (message_put es id 
         let same : e.0 ≡ id = grind (arith, nat_tests) in
         ap (λ (key : ℕ). (e.0, message_of key m) ∷ map filed_as es) same
     at_order Greater is rest = ap (λ (others : List (ℕ × Message)). filed_as e ∷ others) rest
+
+-- one that is kept, in its own place
+pub put_same : (entries : List (ℕ × Filed)) (id : ℕ) (m : Filed) → AreRising (keys_of entries) → value_at entries id ≡ Some m → with_value entries id m ≡ entries
+put_same [] id m rise found = absurd (cc)
+put_same (e ∷ es) id m rise found = at_order (nat_cmp id e.0) refl found (put_same es id m rise.1)
+  where
+    at_order : (o : Ordering) → nat_cmp id e.0 ≡ o → value_at (e ∷ es) id ≡ Some m → (value_at es id ≡ Some m → with_value es id m ≡ es) →
+        match_ordering o ((id, m) ∷ e ∷ es) ((e.0, m) ∷ es) (e ∷ with_value es id m) ≡ e ∷ es
+    at_order Less is at rest = elim (listed_key (e ∷ es) id m at) [
+      | inl same ↦ absurd (let below : id < e.0 = grind (arith, nat_tests) in omega (arith, below, same))
+      | inr later ↦
+          let below : id < e.0 = grind (arith, nat_tests) in
+          let above = each (λ (y : ℕ). e.0 < y) (keys_of es) rise.0 id later in
+          absurd (omega (arith, below, above))
+    ]
+    at_order Equal is at rest =
+        let it : Some e.1 ≡ Some m = rw is at at in
+        let same : m ≡ e.1 = cc in
+        ap (λ (n : Filed). (e.0, n) ∷ es) same
+    at_order Greater is at rest = ap (λ (others : List (ℕ × Filed)). e ∷ others) (rest (rw is at at))
 
 -- the records change in its slots alone
 pub records_put : (entries : List (ℕ × Filed)) (id : ℕ) (m : Filed) (slot : Slot) (after : SlotRecord) → slot.id ≡ id →

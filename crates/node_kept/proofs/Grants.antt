@@ -144,11 +144,11 @@ pub granted_step : (k : Holding) (id place : ℕ) (chain : Chain) (taken new : F
     outputs.ticket ≡ None → outputs.refused ≡ None → outputs.packets.items ≡ [] → outputs.replies.items ≡ [] → outputs.receipts.items ≡ [] →
     outputs.granted ≡ Some chain →
     IsNext k id new next →
-    IsStep k (on_grant (kept_of k) (known_slot (kept_of k) id)) (record { outputs = outputs; change = None; next = next })
+    IsStep k (on_grant (kept_of k) (known_slot (kept_of k) id)) (record { outputs = outputs; next = next })
 granted_step k id place chain taken new outputs next own given known of at is_taken is ticket refused packets replies receipts granted is_next =
     let slot : granted_of chain ≡ known_slot (kept_of k) id = λ i. slot_at (of i) (known_place (sym known i)) in
     let here = at ∙ sym (ap known_place known) in
-    granted_here k id taken new (record { outputs = outputs; change = None; next = next }) own given is_taken
+    granted_here k id taken new (record { outputs = outputs; next = next }) own given is_taken
     (subst (λ (p : ℕ). IsTriedSo taken (λ m. granted_at m p) new) here is) (record {
       gives =
           (λ i. record nothing {
@@ -160,6 +160,5 @@ granted_step k id place chain taken new outputs next own given known of at is_ta
             granted = option_map granted_of (granted i);
           })
           ∙ (λ i. record nothing { granted = Some (slot i) });
-      change = refl;
       next = is_next;
     })

@@ -168,7 +168,7 @@ module _ (k : Holding) (message new : Filed) (chain : Chain) (m : Message) (next
       IsLeft k id new (giving (listed (option_map packet_of packet)) (listed (option_map receipt_of receipt))) step0 → copy ≡ chain →
       outputs_of outputs ≡ record (outputs_of step0.outputs) { replies = replies_to k.setup.nodes (Some decrees) id settled } →
       IsStep k (on_known k.setup (kept_of k) id m decrees)
-      (record { outputs = outputs; change = step0.change; next = record step0.next { queue = changes.Settle copy } })
+      (record { outputs = outputs; next = record step0.next { queue = changes.Settle copy } })
   learned_so taken cancelled had receipt outputs step0 copy is_taken asked starts fate anew due is_left same gives =
       let base = left_as k id new left (as_changed k id message new to left is is_started.same message_is)
       (giving (listed (option_map packet_of packet)) (listed (option_map receipt_of receipt))) step0 is_left in
@@ -180,7 +180,7 @@ module _ (k : Holding) (message new : Filed) (chain : Chain) (m : Message) (next
       gives
       ∙ (λ i. record (is_left.gives i) { replies = replies_to k.setup.nodes (Some decrees) id settled })
       ∙ (λ i. record nothing { packets = listed (packet_is i); replies = replies_to k.setup.nodes (Some decrees) id settled; receipts = receipts i }) in
-      subst (λ (s : Stepped). IsStep k s (record { outputs = outputs; change = step0.change; next = record step0.next { queue = changes.Settle copy } }))
+      subst (λ (s : Stepped). IsStep k s (record { outputs = outputs; next = record step0.next { queue = changes.Settle copy } }))
       ((λ i. record { kept = record (with_message (kept_of k) id left) { held = requeues i }; outputs = outputs_are i })
       ∙ known_so taken cancelled had is_taken asked starts fate)
       (requeued_step k (record {

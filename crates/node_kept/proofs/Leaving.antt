@@ -29,7 +29,7 @@ use Rattle.node_kept.specs.declared.step.Counted.{Counted}
 use Rattle.node_kept.specs.declared.step.Step.{Step}
 use Rattle.node_kept.specs.Keeping.{AreOf, AreOwn, IsAs, IsTaken, filed_as, kept_of, records_of}
 use Rattle.node_kept.specs.Steps.{Alters, IsLeft, IsQuietStep, IsStep, MayCount, counted_if, giving}
-use Rattle.node_kept.proofs.Answering.{holding, next_entries, nexts}
+use Rattle.node_kept.proofs.Answering.{holding, next_entries, next_records, nexts}
 use Rattle.node_kept.proofs.Queueing.{asked_same, place_same}
 use Rattle.node_kept.proofs.Entries.{message_put, own_put, records_kept}
 
@@ -80,8 +80,8 @@ module _ (k : Holding) (id : ℕ) (new : Filed) (to : Message) (is : IsAs k id n
     saves = λ other.
         ap (λ (es : List (ℕ × Filed)). records_of es other) (next_entries k id new step.next is_left.next)
         ∙ records_then other
-        ∙ sym (ap (λ (change : Option Change). changed_by change (records_of Entries) other) is_left.change);
-    alters = subst (λ (change : Option Change). Alters change (records_of Entries)) (sym is_left.change) tt;
+        ∙ sym (ap (λ (change : Option Change). changed_by change (records_of Entries) other) is_left.next.change);
+    alters = subst (λ (change : Option Change). Alters change (records_of Entries)) (sym is_left.next.change) tt;
     own = λ own. record {
       each = subst (λ (es : List (ℕ × Filed)). AreOf k.setup k.incarnation es) (sym (next_entries k id new step.next is_left.next))
           (own_put k.setup k.incarnation Entries id new (is.own own) own.each);
@@ -90,6 +90,7 @@ module _ (k : Holding) (id : ℕ) (new : Filed) (to : Message) (is : IsAs k id n
     };
     room = is_left.next.room;
     count = is_left.next.count;
+    change = next_records k id new step.next is_left.next;
     place = place_same k.queue step.next.queue is_left.next.queue;
   }
 

@@ -189,7 +189,7 @@ pub requeued_step : (k : Holding) (to : Stepped) (step : Step) (queue : QueueCha
     HasPlace k.queue queue →
     (AreOwn k → AreAsked k.setup.node k.incarnation (suc k.given) (requeued k.setup.nodes (held_in k.queue) queue)) →
     IsStep k (record { kept = record to.kept { held = requeued k.setup.nodes (held_in k.queue) queue }; outputs = outputs_of outputs })
-    (record { outputs = outputs; change = step.change; next = record step.next { queue = queue } })
+    (record { outputs = outputs; next = record step.next { queue = queue } })
 requeued_step k to step queue outputs is ticket place asked = record {
   kept = ap (λ (kept : Kept). record kept { held = requeued k.setup.nodes (held_in k.queue) queue }) is.kept;
   outputs = refl;
@@ -202,6 +202,7 @@ requeued_step k to step queue outputs is ticket place asked = record {
   };
   room = is.room;
   count = is.count;
+  change = is.change;
   place = place;
 }
 
@@ -230,7 +231,7 @@ pub arrived_step : (k : Holding) (to : Stepped) (step : Step) (serial : ℕ) (ne
       kept = record to.kept { serial = serial; ticket = suc (suc k.given); held = held_in k.queue ++ held_of (box_value new) ∷ [] };
       outputs = outputs_of outputs;
     })
-    (record { outputs = outputs; change = step.change; next = record step.next { serial = serial; given = suc k.given; queue = changes.Push new } })
+    (record { outputs = outputs; next = record step.next { serial = serial; given = suc k.given; queue = changes.Push new } })
 arrived_step k to step serial new outputs is ticket room sound own least = record {
   kept = ap (λ (kept : Kept). record kept { serial = serial; ticket = suc (suc k.given); held = held_in k.queue ++ held_of (box_value new) ∷ [] }) is.kept;
   outputs = refl;
@@ -243,5 +244,6 @@ arrived_step k to step serial new outputs is ticket room sound own least = recor
   };
   room = is.room;
   count = is.count;
+  change = is.change;
   place = (room, subst (IsAbove (held_in k.queue)) (sym ticket) own.asked.above);
 }

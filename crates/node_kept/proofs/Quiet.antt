@@ -14,7 +14,8 @@ use Rattle.node_kept.specs.declared.kept.Kept.{Kept as Holding}
 use Rattle.node_kept.specs.declared.step.QuietStep.{QuietStep}
 use Rattle.node_kept.specs.declared.step.Step.{Step}
 use Rattle.node_kept.specs.Keeping.{AreOf, AreOwn, filed_as, kept_of, records_of}
-use Rattle.node_kept.specs.Steps.{Alters, IsCounting, IsQuietStep, IsStep, IsTakenQuietly, MayCount, counted_if, entries_after, entries_then, rested_if}
+use Rattle.node_kept.specs.Steps.{Alters, IsCounting, IsQuietStep, IsStep, IsTakenQuietly, MayCount, counted_if, entries_after, entries_then, recorded_if, rested_if}
+use Rattle.node_kept.proofs.Answering.{none_made}
 use Rattle.node_kept.proofs.Queueing.{asked_same, held_same, place_same}
 
 -- it is taken at once
@@ -40,7 +41,7 @@ pub prepared_quietly : (k : Holding) (to : Stepped) (quiet : QuietStep) (step : 
 prepared_quietly k to quiet step does is =
     let old = k.messages.entries in
     let entries : entries_then old step.next ≡ counted_if quiet.counted old =
-    λ i. entries_after (rested_if (does.drops i) (counted_if (does.counted_is i) old)) (does.messages i) in
+    λ i. recorded_if (does.change i) (entries_after (rested_if (does.drops i) (counted_if (does.counted_is i) old)) (does.messages i)) in
     record {
       kept = (λ i. record (kept_of k) {
         records = records_of (entries i);
@@ -64,4 +65,5 @@ prepared_quietly k to quiet step does is =
       room = rw does.messages (omega arith, omega arith);
       place = place_same k.queue step.next.queue does.queue;
       count = subst (MayCount old) (sym does.counted_is) is.count;
+      change = none_made k step.next does.change;
     }

@@ -321,9 +321,9 @@ module _ (k : Holding) (known : Option (List Decree)) (told : Held) (next : Opti
   pub told_here : (outputs : Sent) → AreOwn k → IsSound k.setup.node k.incarnation told → IsStep k (started_alone prepared) step0 → step0.next.given ≡ k.given →
       IsVerdict k.setup.nodes known new verdict → next ≡ next_told k.setup (kept_of k) (settles k.setup.nodes known told) known new →
       outputs_of outputs ≡ record (outputs_of step0.outputs) { replies = map reply_given verdict.0.items } →
-      IsStep k (told_to k.setup (kept_of k) known told) (record { outputs = outputs; change = step0.change; next = record step0.next { queue = verdict.1 } })
+      IsStep k (told_to k.setup (kept_of k) known told) (record { outputs = outputs; next = record step0.next { queue = verdict.1 } })
   told_here outputs own sound base ticket is starts gives =
-      let after : Step = record { outputs = outputs; change = step0.change; next = record step0.next { queue = verdict.1 } } in
+      let after : Step = record { outputs = outputs; next = record step0.next { queue = verdict.1 } } in
       subst (λ (s : Stepped). IsStep k s after)
       ((λ i. record {
         kept = record prepared.kept { held = requeued k.setup.nodes (held_in k.queue) verdict.1 };

@@ -1,5 +1,5 @@
 -- The step of a tick is the model's.
-use Rattle.std.proofs.Common.{◌≡◌, ◌⊎◌, ◌+◌, ℕ, suc, ◌≤◌, ◌-◌, max, true, Bool, List, [], map, None, Option, sym, ap, subst, ◌∙◌, inl, inr, arith}
+use Rattle.std.proofs.Common.{◌≡◌, ◌⊎◌, ◌+◌, ℕ, suc, ◌≤◌, ◌-◌, max, true, List, [], map, None, Option, sym, ap, subst, ◌∙◌, inl, inr, arith}
 use Rattle.std.proofs.Math.Path.{fun_ext}
 use Rattle.std.specs.Prelude.{◌++◌, filter, option_map}
 use Rattle.mc_model.specs.synod.Packet.{Packet, Slot}
@@ -20,12 +20,13 @@ use Rattle.node_kept.specs.declared.kept.Kept.{Kept as Holding}
 use Rattle.node_kept.specs.declared.queue_change.QueueChange.{QueueChange}
 use Rattle.node_kept.specs.declared.queue_change.QueueChange.TheVariants as changes
 use Rattle.node_kept.specs.Queueing.{AreAsked, HasPlace, requeued}
+use Rattle.node_kept.proofs.Answering.{none_made}
 use Rattle.node_kept.proofs.TickTurns.{asked_timely}
 use Rattle.node_kept.specs.declared.step.Step.{Step}
 use Rattle.synod_acceptor.specs.Packets.{packet_of}
 use Rattle.node_kept.specs.declared.turn_list.TurnList.{TurnList}
 use Rattle.node_kept.specs.Keeping.{AreOf, filed_as, kept_of, records_of}
-use Rattle.node_kept.specs.Steps.{Alters, HasRoom, IsStep, MayCount, counted_if, entries_after, granted_of, held_then, installed, kept_then, outputs_of, rested_if}
+use Rattle.node_kept.specs.Steps.{Alters, HasRoom, IsStep, MayCount, counted_if, entries_after, granted_of, held_then, installed, kept_then, outputs_of, recorded_if, rested_if}
 use Rattle.node_model.specs.Reported.{receipt_of}
 use Rattle.node_kept.specs.Ticking.{IsTurned, entries_turned, kept_turned}
 
@@ -50,7 +51,7 @@ pub record IsTickStep (k : Holding) (clock : ℕ) (turns : TurnList) (step : Ste
   pub replies : map reply_given step.outputs.replies.items ≡ map late_reply (filter (is_late clock) (held_in k.queue))
   pub receipts : step.outputs.receipts.items ≡ []
   pub granted : step.outputs.granted ≡ None
-  pub change : step.change ≡ None
+  pub change : step.next.change ≡ None
 
 module _ (k : Holding) (moment : ℕ) (reach : Reach) (turns : TurnList) (step : Step) (is : IsTickStep k (max k.clock moment) turns step)
     (turned : IsTurned k (max k.clock moment) reach (ids_of (ticked (kept_of k) (max k.clock moment))) turns) where
@@ -58,7 +59,7 @@ module _ (k : Holding) (moment : ℕ) (reach : Reach) (turns : TurnList) (step :
   Clock = max k.clock moment
 
   entries_then : (installed k step.next).messages.entries ≡ entries_turned k turns
-  entries_then = λ i. entries_after (rested_if (is.drops i) (counted_if (is.counted i) k.messages.entries)) (is.messages i)
+  entries_then = λ i. recorded_if (is.change i) (entries_after (rested_if (is.drops i) (counted_if (is.counted i) k.messages.entries)) (is.messages i))
 
   saved_then : (slot : Slot) → records_of (installed k step.next).messages.entries slot ≡ records_of k.messages.entries slot
   saved_then slot = ap (λ (es : List (ℕ × Filed)). records_of es slot) entries_then ∙ turned.saved slot
@@ -107,6 +108,7 @@ module _ (k : Holding) (moment : ℕ) (reach : Reach) (turns : TurnList) (step :
     };
     room = is.room;
     count = subst (MayCount k.messages.entries) (sym is.counted) tt;
+    change = none_made k step.next is.change;
     place = subst (HasPlace k.queue) (sym is.queue) tt;
   }
 

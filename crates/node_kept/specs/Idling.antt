@@ -1,5 +1,5 @@
 -- A tick that finds nothing due.
-use Rattle.std.specs.Prelude.{◌≡◌, ℕ, max, Bool, false, List, None}
+use Rattle.std.specs.Prelude.{◌≡◌, ℕ, max, false, None}
 use Rattle.mc_model.specs.synod.Lists.{In}
 use Rattle.mc_model.specs.node.Reach.{Reach}
 use Rattle.mc_model.specs.node.Setup.{Setup}

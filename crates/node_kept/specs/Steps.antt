@@ -26,6 +26,7 @@ use Rattle.synod_acceptor.specs.Votes.{record_of, slot_recorded}
 use Rattle.synod_acceptor.specs.declared.acceptor.Verdict.{Verdict}
 use Rattle.synod_acceptor.specs.declared.packet.Packet.{Packet as Came}
 use Rattle.synod_acceptor.specs.declared.record.Change.{Change}
+use Rattle.synod_acceptor.specs.declared.room.RecordRoom.{RecordRoom}
 use Rattle.node_parts.specs.declared.fault.StepFault.{StepFault}
 use Rattle.node_parts.specs.declared.fault.StepFault.TheVariants as faults
 use Rattle.node_parts.specs.declared.input.Input.{Input as Given}
@@ -35,6 +36,7 @@ use Rattle.node_parts.specs.declared.message_room.MessageRoom.{MessageRoom}
 use Rattle.node_parts.specs.declared.outputs.Outputs.{Outputs as Sent}
 use Rattle.node_parts.specs.Attempting.{reason_of}
 use Rattle.node_parts.specs.Counting.{IsCountable, recounted_at}
+use Rattle.node_parts.specs.Recording.{HasRecordRoom, IsRecordable, id_changed, recorded_at}
 use Rattle.node_parts.specs.Living.{Listed}
 use Rattle.node_parts.specs.Messages.{changed_by, rested_entry}
 use Rattle.node_kept.specs.declared.kept.Kept.{Kept as Holding}
@@ -102,9 +104,22 @@ abbrev pub MayCount : List (ℕ × Filed) → Option Counted → Type 0
 MayCount entries None = Unit {0}
 MayCount entries (Some c) = IsCountable entries c.id c.recount
 
--- what is kept of all messages after it
+-- with a change that is made in what is kept of its message, if there is one
+abbrev pub recorded_if : Option Change → List (ℕ × Filed) → List (ℕ × Filed)
+recorded_if None entries = entries
+recorded_if (Some change) entries = recorded_at entries (id_changed change) change
+
+-- the message is kept, and there is room for its record
+abbrev pub MayRecord : List (ℕ × Filed) → Option Change → RecordRoom → Type 0
+MayRecord entries None room = Unit {0}
+MayRecord entries (Some change) room = IsRecordable entries (id_changed change) change room
+
+-- what is kept of all messages after it, but for the change
+abbrev pub entries_before : List (ℕ × Filed) → Next → List (ℕ × Filed)
+entries_before entries next = entries_after (rested_if next.drops_rounds (counted_if next.counted entries)) next.messages.items
+
 abbrev pub entries_then : List (ℕ × Filed) → Next → List (ℕ × Filed)
-entries_then entries next = entries_after (rested_if next.drops_rounds (counted_if next.counted entries)) next.messages.items
+entries_then entries next = recorded_if next.change (entries_before entries next)
 
 -- what is kept after it, but for the requests that wait
 abbrev pub installed : Holding → Next → Holding
@@ -154,6 +169,7 @@ pub record IsNext (k : Holding) (id : ℕ) (m : Filed) (next : Next) : Type 0 wh
   pub queue : next.queue ≡ changes.Same
   pub entries : entries_after (counted_if next.counted k.messages.entries) next.messages.items ≡ with_value k.messages.entries id m
   pub count : MayCount k.messages.entries next.counted
+  pub change : next.change ≡ None
   pub room : HasRoom k.messages next
 
 -- what is kept after it is the node's own
@@ -172,12 +188,13 @@ Alters (Some change) records = record_of change.after ≢ records (slot_recorded
 pub record IsStep (k : Holding) (to : Stepped) (step : Step) : Type 0 where
   pub kept : kept_then k step.next ≡ to.kept
   pub outputs : outputs_of step.outputs ≡ to.outputs
-  pub saves : (slot : Slot) → records_of (installed k step.next).messages.entries slot ≡ changed_by step.change (records_of k.messages.entries) slot
-  pub alters : Alters step.change (records_of k.messages.entries)
+  pub saves : (slot : Slot) → records_of (installed k step.next).messages.entries slot ≡ changed_by step.next.change (records_of k.messages.entries) slot
+  pub alters : Alters step.next.change (records_of k.messages.entries)
   pub own : AreOwn k → AreOwnThen k step.next
   pub room : HasRoom k.messages step.next
   pub place : HasPlace k.queue step.next.queue
   pub count : MayCount k.messages.entries step.next.counted
+  pub change : MayRecord (entries_before k.messages.entries step.next) step.next.change step.next.records
 
 -- what is given out of an attempt that is granted is the known chain of its message
 pub record IsKnown (k : Kept) (id : ℕ) (chain : Chain) : Type 0 where
@@ -197,11 +214,22 @@ pub record IsStepFor (k : Holding) (input : Given) (step : Step) : Type 0 where
   pub allowed : refused_by k.setup (kept_of k) input ≡ None
   pub granted : GrantsKnown (kept_of k) input step.outputs.granted
 
--- it answers by a verdict, and keeps this message
-pub record IsAnswer (k : Holding) (id : ℕ) (m : Filed) (verdict : Verdict) (step : Step) : Type 0 where
+-- there is room for the record of a change in a message, if there is one
+abbrev pub HasPlaceFor : Filed → Option Change → RecordRoom → Type 0
+HasPlaceFor m None room = Unit {0}
+HasPlaceFor m (Some change) room = HasRecordRoom m change room
+
+-- it answers by the verdict of a message, and makes its change, for which there is room
+pub record IsAnswer (k : Holding) (m : Filed) (verdict : Verdict) (step : Step) : Type 0 where
   pub outputs : outputs_of step.outputs ≡ record nothing { packets = packet_of verdict.answer ∷ [] }
-  pub change : step.change ≡ verdict.change
-  pub next : IsNext k id m step.next
+  pub change : step.next.change ≡ verdict.change
+  pub place : HasPlaceFor m verdict.change step.next.records
+  pub clock : step.next.clock ≡ k.clock
+  pub serial : step.next.serial ≡ k.serial
+  pub given : step.next.given ≡ k.given
+  pub counted : step.next.counted ≡ None
+  pub drops : step.next.drops_rounds ≡ false
+  pub queue : step.next.queue ≡ changes.Same
 
 abbrev pub giving : List Packet → List Receipt → Outputs
 giving packets receipts = record nothing { packets = packets; receipts = receipts }
@@ -209,7 +237,7 @@ giving packets receipts = record nothing { packets = packets; receipts = receipt
 -- it counts this vote anew, if there is one, and does nothing else
 pub record IsCounting (k : Holding) (counted : Option Counted) (step : Step) : Type 0 where
   pub gives : outputs_of step.outputs ≡ nothing
-  pub change : step.change ≡ None
+  pub change : step.next.change ≡ None
   pub clock : step.next.clock ≡ k.clock
   pub serial : step.next.serial ≡ k.serial
   pub given : step.next.given ≡ k.given
@@ -221,7 +249,6 @@ pub record IsCounting (k : Holding) (counted : Option Counted) (step : Step) : T
 -- it gives this out, saves nothing, and keeps this message
 pub record IsLeft (k : Holding) (id : ℕ) (m : Filed) (outputs : Outputs) (step : Step) : Type 0 where
   pub gives : outputs_of step.outputs ≡ outputs
-  pub change : step.change ≡ None
   pub next : IsNext k id m step.next
 
 -- ---- a step that gives nothing out and saves nothing

@@ -35,7 +35,6 @@ impl Kept {
         let next = self.next(id, message)?;
         Ok(Step {
             outputs: Outputs::granting(self.alloc, chain),
-            change: None,
             next,
         })
     }

@@ -13,7 +13,7 @@ ghost use Rattle.node_model.specs.Kept.{message_at};
 ghost use Rattle.node_model.specs.Proposer.{is_own_ballot, runs_at};
 ghost use Rattle.node_model.specs.Packets.{is_member, on_ask, on_packet, on_prepare, on_promise, on_propose, on_refused};
 ghost use Rattle.synod_acceptor.specs.Packets.{packet_of};
-ghost use Rattle.shelf.specs.Shelved.{value_at};
+ghost use Rattle.shelf.specs.Shelved.{value_at, with_value};
 ghost use Rattle.synod_acceptor.specs.Records.{entries_of, record_at};
 ghost use Rattle.synod_acceptor.specs.Votes.{report_of, slot_in, slot_reported, told_vote, vote_of};
 ghost use Rattle.node_parts.specs.Lists.{listed};
@@ -25,8 +25,8 @@ ghost use Rattle.node_kept.specs.declared.queue_change.QueueChange.TheVariants.{
 ghost use Rattle.waiting_requests.specs.Waiting.{held_in};
 ghost use Rattle.node_kept.specs.Voting.{IsCountedSo, id_concerns, voted_in};
 ghost use Rattle.node_kept.specs.Preparing.{IsPrepared};
-ghost use Rattle.node_kept.specs.Steps.{HasRoom, IsAnswer, IsCounting, IsFault, IsInstalled, IsLeft, IsNext, IsQuietStep, IsStep, IsTakenQuietly, MayCount};
-ghost use Rattle.node_kept.specs.Steps.{counted_if, entries_after, giving, refused_by, rested_if};
+ghost use Rattle.node_kept.specs.Steps.{HasRoom, IsAnswer, IsCounting, IsFault, IsInstalled, IsLeft, IsNext, IsQuietStep, IsStep, IsTakenQuietly, MayCount, MayRecord};
+ghost use Rattle.node_kept.specs.Steps.{counted_if, entries_after, entries_before, giving, recorded_if, refused_by, rested_if};
 ghost use Rattle.node_model.specs.Reported.{receipt_of};
 
 use crate::queue_change::QueueChange;
@@ -36,7 +36,7 @@ use fate_chain::{Author, Chain, Decree, Kind};
 use mc_types::{Ballot, Incarnation, Moment, MsgId, NodeNo, Slot};
 use node_parts::{Input, Message, MessageShelf, Outputs, Reach, StepFault, sender};
 use std::alloc::{AllocError, Global};
-use synod_acceptor::{Name, Packet, Record, Report, Verdict, Vote};
+use synod_acceptor::{Change, Name, Packet, Record, RecordRoom, Report, Verdict, Vote};
 use tick_rules::Standpoint;
 use waiting_requests::Queue;
 
@@ -211,6 +211,7 @@ impl Kept {
         requires room { HasRoom self.old.messages next }
         requires place { HasPlace self.old.queue next.queue }
         requires count { MayCount self.old.messages.entries next.counted }
+        requires change { MayRecord (entries_before self.old.messages.entries next) next.change next.records }
         ensures { IsInstalled self.old next self.new }
     {
         let Next {
@@ -222,6 +223,8 @@ impl Kept {
             queue,
             messages,
             room,
+            change,
+            records,
             reach,
         } = next;
         self.clock = clock;
@@ -234,6 +237,7 @@ impl Kept {
         count_if(&mut self.messages, counted);
         rest_if(&mut self.messages, drops_rounds);
         put_each(&mut self.messages, messages);
+        record_if(&mut self.messages, change, records);
         let at = self.standpoint();
         doze_if(&mut self.messages, &at, reach);
     }
@@ -255,11 +259,9 @@ impl Kept {
         ensures packets { result.outputs.packets.items ≡ [] }
         ensures replies { result.outputs.replies.items ≡ [] }
         ensures receipts { result.outputs.receipts.items ≡ [] }
-        ensures change { result.change ≡ None }
     {
         Step {
             outputs: Outputs::nothing(self.alloc),
-            change: None,
             next: self.unchanged(),
         }
     }
@@ -275,6 +277,7 @@ impl Kept {
         ensures queue { result.queue ≡ Same }
         ensures messages { result.messages.items ≡ [] }
         ensures room { result.room ≡ None }
+        ensures change { result.change ≡ None }
         ensures reach { result.reach ≡ None }
     {
         Next {
@@ -286,6 +289,8 @@ impl Kept {
             queue: QueueChange::Same,
             messages: Vec::new(self.alloc),
             room: None,
+            change: None,
+            records: RecordRoom::none(self.alloc),
             reach: None,
         }
     }
@@ -296,9 +301,18 @@ impl Kept {
         ensures { IfOk result (IsStep self.now (on_prepare self.now.setup (kept_of self.now) slot ballot)) }
     {
         let id = slot.id;
-        let mut message = self.taken(id)?;
-        let verdict = message.promise(self.node(), slot, ballot)?;
-        self.answer(id, message, verdict)
+        self.messages.ascends();
+        match self.find(id) {
+            Some(message) => {
+                let verdict = message.judge_prepare(self.node(), slot, ballot)?;
+                self.answer(message, verdict)
+            }
+            None => {
+                let message = self.first(id);
+                let verdict = message.judge_prepare(self.node(), slot, ballot)?;
+                self.answer_first(id, message, verdict)
+            }
+        }
     }
 
     /// What it does with a Propose.
@@ -307,9 +321,18 @@ impl Kept {
         ensures { IfOk result (IsStep self.now (on_propose self.now.setup (kept_of self.now) (slot_in vote.now) (vote_of vote.now))) }
     {
         let id = vote.chain.id();
-        let mut message = self.taken(id)?;
-        let verdict = message.vote(self.node(), vote)?;
-        self.answer(id, message, verdict)
+        self.messages.ascends();
+        match self.find(id) {
+            Some(message) => {
+                let verdict = message.judge_propose(self.node(), vote)?;
+                self.answer(message, verdict)
+            }
+            None => {
+                let message = self.first(id);
+                let verdict = message.judge_propose(self.node(), vote)?;
+                self.answer_first(id, message, verdict)
+            }
+        }
     }
 
     /// What it does with a question.
@@ -455,7 +478,6 @@ impl Kept {
         next.counted = quiet.counted;
         Step {
             outputs: Outputs::nothing(self.alloc),
-            change: None,
             next,
         }
     }
@@ -532,8 +554,17 @@ impl Kept {
     {
         match self.find(id) {
             Some(message) => message.copy(),
-            None => Ok(Message::fresh(self.alloc, self.author(), self.nodes())),
+            None => Ok(self.first(id)),
         }
+    }
+
+    /// What is kept of a message at first. It takes no memory.
+    fn first(&self, id: MsgId) -> Message
+        requires { value_at self.now.messages.entries id ≡ None }
+        ensures { IsTaken self.now id result }
+    {
+        id.bounds();
+        Message::fresh(self.alloc, self.author(), self.nodes())
     }
 
     /// What is kept of a message; none if it was never heard of. It takes no memory.
@@ -632,18 +663,39 @@ impl Kept {
         self.setup.node
     }
 
-    /// The step that answers by a verdict and keeps this message under the id.
+    /// The step that answers by the verdict of a message, and makes its change in what is kept of that.
     #[inline(always)]
-    fn answer(&self, id: MsgId, message: Message, verdict: Verdict) -> Result<Step, AllocError>
-        ensures { IfOk result (IsAnswer self.now id message verdict) }
+    fn answer(&self, message: &Message, verdict: Verdict) -> Result<Step, AllocError>
+        ensures answer { IfOk result (IsAnswer self.now message.now verdict) }
+        ensures messages { IfOk result (λ step. step.next.messages.items ≡ []) }
     {
-        let next = self.next(id, message)?;
-        let outputs = Outputs::of(self.alloc, Some(verdict.answer), None)?;
-        Ok(Step {
-            outputs,
-            change: verdict.change,
-            next,
-        })
+        let Verdict { answer, change } = verdict;
+        let mut next = self.unchanged();
+        if let Some(change) = &change {
+            next.records = message.record_room(change)?;
+        }
+        next.change = change;
+        let outputs = Outputs::of(self.alloc, Some(answer), None)?;
+        Ok(Step { outputs, next })
+    }
+
+    /// The step that answers by the verdict of a message that was never heard of, keeps that under its id, and makes its change there.
+    #[inline(always)]
+    fn answer_first(
+        &self,
+        id: MsgId,
+        message: Message,
+        verdict: Verdict,
+    ) -> Result<Step, AllocError>
+        ensures answer { IfOk result (IsAnswer self.now message verdict) }
+        ensures messages { IfOk result (λ step. entries_after self.now.messages.entries step.next.messages.items ≡ with_value self.now.messages.entries id message) }
+        ensures room { IfOk result (λ step. HasRoom self.now.messages step.next) }
+    {
+        let mut step = self.answer(&message, verdict)?;
+        let message = Box::new(self.alloc, message)?;
+        step.next.messages.push(Put { id, message })?;
+        step.next.room = Some(self.messages.room(self.alloc, 1)?);
+        Ok(step)
     }
 
     /// The step that sends this packet and writes this receipt, as far as there are any, and keeps this message under the id.
@@ -659,11 +711,7 @@ impl Kept {
     {
         let next = self.next(id, message)?;
         let outputs = Outputs::of(self.alloc, packet, receipt)?;
-        Ok(Step {
-            outputs,
-            change: None,
-            next,
-        })
+        Ok(Step { outputs, next })
     }
 
     /// This message is to take the place of what is kept of the id, and nothing else changes.
@@ -705,6 +753,18 @@ fn count_if(kept: &mut MessageShelf, counted: Option<Counted>)
 {
     if let Some(Counted { id, recount }) = counted {
         kept.count_anew(id, recount);
+    }
+}
+
+/// Makes a change in what is kept of its message, if there is one; there is room for its record. It takes no memory.
+#[inline(always)]
+fn record_if(kept: &mut MessageShelf, change: Option<Change>, room: RecordRoom)
+    requires { MayRecord kept.old.entries change room }
+    ensures { kept.new.entries ≡ recorded_if change kept.old.entries }
+{
+    if let Some(change) = change {
+        let id = change.after.slot().id;
+        kept.apply(id, change, room);
     }
 }
 

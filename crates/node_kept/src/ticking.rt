@@ -60,7 +60,6 @@ impl Kept {
         next.reach = Some(reach);
         Ok(Step {
             outputs: Outputs::telling(self.alloc, packets, replies),
-            change: None,
             next,
         })
     }

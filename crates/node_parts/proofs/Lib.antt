@@ -9,6 +9,7 @@ pub mod Rising
 pub mod IdLists
 pub mod Living
 pub mod Counting
+pub mod Recording
 pub mod Naming
 pub mod Sleeping
 pub mod Listings

@@ -134,6 +134,24 @@ module _ (entries : List (ℕ × Filed)) (live : List ℕ) (room id : ℕ) (m to
       let more = no_more (keys_of entries) (keys_of Changed) rise rise_then (λ other among. in_keys entries id other to (inr among)) in
       omega (arith, fewer, more, key_length Changed, key_length entries)
 
+  -- it is listed anew, for which there is room
+  pub room_to_relist : length (insert_key nat_cmp live id) ≤ room
+  room_to_relist =
+      let fewer = no_more (insert_key nat_cmp live id) (keys_of Changed) (rise_put id live listed.rising)
+      (rise_of (keys_of Changed) (still_ascends entries id to ascends)) (live_kept entries live room id to listed) in
+      let fits = listed.fits in
+      omega (arith, fewer, fits, changed_length, key_length Changed)
+
+  pub relisted : AreListed Changed (insert_key nat_cmp live id) room
+  relisted = record {
+    rising = rise_put id live listed.rising;
+    kept = live_kept entries live room id to listed;
+    others = λ other n at new.
+        let apart : other ≡ id → ⊥ = (λ same. new (put_in other id live (inl same))) in
+        listed.others other n (sym (elsewhere id to other apart entries) ∙ at) (λ among. new (put_in other id live (inr among)));
+    fits = let fits = listed.fits in omega (arith, fits, changed_length);
+  }
+
   -- what was settled is so
   pub listed_changed : (IsSettled id m → IsSettled id to) → AreListed Changed live room
   listed_changed settled = record {

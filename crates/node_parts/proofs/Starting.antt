@@ -20,7 +20,7 @@ use Rattle.node_parts.specs.Messages.{may_start, next_round, prepare_from, with_
 
 -- ---- one entry, put twice
 
-put_twice : {V : Type 0} (es : List (ℕ × V)) (key : ℕ) (one other : V) →
+pub put_twice : {V : Type 0} (es : List (ℕ × V)) (key : ℕ) (one other : V) →
     insert_entry nat_cmp (insert_entry nat_cmp es key one) key other ≡ insert_entry nat_cmp es key other
 put_twice [] key one other = let same : nat_cmp key key ≡ Equal = grind (arith, nat_tests) in rw same refl
 put_twice (e ∷ es) key one other = at_order (nat_cmp key e.0) refl (put_twice es key one other)

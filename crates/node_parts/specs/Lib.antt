@@ -6,6 +6,7 @@ pub mod Copies
 pub mod Attempting
 pub mod Messages
 pub mod Counting
+pub mod Recording
 pub mod Renewal
 pub mod Told
 pub mod Turning

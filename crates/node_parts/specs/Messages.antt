@@ -158,11 +158,7 @@ abbrev pub changed_by : Option Change → Records → Records
 changed_by None records = records
 changed_by (Some change) records = with_record records (slot_recorded change.after) (record_of change.after)
 
--- The acceptor answers as it is judged, and keeps the record that it leaves; nothing else of the message changes.
-pub record IsJudged (old : Filed) (slot : Slot) (judged : Judgement) (new : Filed) (verdict : Verdict) : Type 0 where
+-- The acceptor answers as it is judged, and the change that is to be made leaves the record that is judged.
+pub record IsJudged (m : Filed) (slot : Slot) (judged : Judgement) (verdict : Verdict) : Type 0 where
   pub answer : packet_of verdict.answer ≡ judged.answer
-  pub change : Changes slot (record_at old.acceptor slot) judged.after verdict.change
-  pub records : (other : Slot) → record_at new.acceptor other ≡ with_record (record_at old.acceptor) slot judged.after other
-  pub learner : new.learner ≡ old.learner
-  pub proposer : new.proposer ≡ old.proposer
-  pub attempts : new.attempts ≡ old.attempts
+  pub change : Changes slot (record_at m.acceptor slot) judged.after verdict.change

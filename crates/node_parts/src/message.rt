@@ -1,6 +1,6 @@
 //! What a node keeps of one message.
 
-ghost use Rattle.std.specs.Prelude.{◌≡◌, ◌≤◌, ◌<◌, ℕ, true, Ok, Some, None, IfErr, IfOk, IfSome, OnOk, option_map, if◌then◌else◌};
+ghost use Rattle.std.specs.Prelude.{◌≡◌, ◌≤◌, ◌<◌, ℕ, true, Ok, Some, None, IfErr, IfOk, IfSome, IsSome, OnErr, OnOk, option_map, if◌then◌else◌};
 ghost use Rattle.std.specs.Option.{option_copied};
 ghost use Rattle.mc_model.specs.node.Setup.{Setup};
 ghost use Rattle.mc_model.specs.synod.Packet.{Slot as SlotValue};
@@ -22,6 +22,7 @@ ghost use Rattle.tick_rules.specs.Standpoints.{kept_of, setup_of, start_of};
 ghost use Rattle.synod_learner.specs.Counts.{known_in};
 ghost use Rattle.synod_learner.specs.Hearing.{IsRecount};
 ghost use Rattle.node_parts.specs.Counting.{IsHeardAnewFor, recounted_in};
+ghost use Rattle.node_parts.specs.Recording.{HasRecordRoom, recorded_in};
 ghost use Rattle.node_parts.specs.Attempting.{IsBacked, IsBy, IsTried, granted_in, reason_of};
 ghost use Rattle.node_model.specs.Ticks.{ruled};
 ghost use Rattle.node_model.specs.Rules.{first_rule, known_rule};
@@ -30,7 +31,7 @@ ghost use Rattle.tick_rules.specs.Dues.{rule_of};
 ghost use Rattle.delivery.specs.Targets.{is_up};
 ghost use Rattle.node_parts.specs.Turning.{IsAtRest, IsOfTurn, gives_up, ruled_as, ruled_by, turned};
 ghost use Rattle.node_parts.specs.Messages.{IsConcluded, IsHeard, IsJudged, IsOf, IsPromised, IsRefused, IsStarted, IsStartedFor};
-ghost use Rattle.node_parts.specs.Messages.{IsTriedSo, changed_by, closed_at, granted_at, message_of, rested};
+ghost use Rattle.node_parts.specs.Messages.{IsTriedSo, closed_at, granted_at, message_of, rested};
 ghost use Rattle.node_parts.specs.Living.{is_decided, is_over};
 ghost use Rattle.node_parts.specs.Reaching.{reach_of, reach_with};
 ghost use Rattle.node_parts.specs.Sleeping.{IsAsleep, sleep_of};
@@ -49,7 +50,7 @@ use fate_chain::{Author, Chain, Decree, Kind};
 use mc_types::{Ballot, Moment, MsgId, NodeNo, Slot};
 use pdu_codec::SystemId;
 use std::alloc::{AllocError, Global};
-use synod_acceptor::{Acceptor, Change, Packet, Record, Report, Verdict, Vote};
+use synod_acceptor::{Acceptor, Change, Packet, Record, RecordRoom, Report, Verdict, Vote};
 use synod_learner::{Learner, Recount};
 use synod_proposer::Proposer;
 use tick_rules::{Attempted, Closing, Due, Standpoint, follow, until_due};
@@ -81,32 +82,45 @@ impl Message {
         }
     }
 
-    /// What the acceptor of the node of this number answers to a Prepare, and the change that is to be saved before; it has taken it in.
-    /// An `Err` is want of memory, after which the message is worth nothing.
-    #[inline(never)]
-    pub fn promise(
-        &mut self,
+    /// What the acceptor of the node of this number answers to a Prepare, and the change that is to be saved before. It changes nothing, and takes memory
+    /// only to copy a vote.
+    pub fn judge_prepare(
+        &self,
         node: NodeNo,
         slot: Slot,
         ballot: Ballot,
     ) -> Result<Verdict, AllocError>
-        ensures { IfOk result (IsJudged self.old slot (prepare_judged node slot ballot (record_at self.old.acceptor slot)) self.new) }
+        ensures judged { IfOk result (IsJudged self.now slot (prepare_judged node slot ballot (record_at self.now.acceptor slot))) }
+        ensures memory { OnErr result ((record_at self.now.acceptor slot).promised < ballot) }
+        ensures votes { OnErr result (IsSome (record_at self.now.acceptor slot).vote) }
     {
-        let verdict = self.acceptor.judge_prepare(node, slot, ballot)?;
-        take_in(&mut self.acceptor, &verdict.change)?;
-        Ok(verdict)
+        self.acceptor.judge_prepare(node, slot, ballot)
     }
 
-    /// What the acceptor of the node of this number answers to a Propose, and the change that is to be saved before; it has taken it in.
-    /// An `Err` is want of memory, after which the message is worth nothing.
-    #[inline(never)]
-    pub fn vote(&mut self, node: NodeNo, vote: &Vote) -> Result<Verdict, AllocError>
-        ensures { IfOk result (IsJudged self.old (slot_in vote.now)
-            (propose_judged node (slot_in vote.now) (vote_of vote.now) (record_at self.old.acceptor (slot_in vote.now))) self.new) }
+    /// What the acceptor of the node of this number answers to a Propose, and the change that is to be saved before. It changes nothing, and takes memory
+    /// only to copy the vote.
+    pub fn judge_propose(&self, node: NodeNo, vote: &Vote) -> Result<Verdict, AllocError>
+        ensures judged { IfOk result (IsJudged self.now (slot_in vote.now)
+            (propose_judged node (slot_in vote.now) (vote_of vote.now) (record_at self.now.acceptor (slot_in vote.now)))) }
+        ensures memory { OnErr result ((record_at self.now.acceptor (slot_in vote.now)).promised ≤ vote.now.ballot) }
     {
-        let verdict = self.acceptor.judge_propose(node, vote)?;
-        take_in(&mut self.acceptor, &verdict.change)?;
-        Ok(verdict)
+        self.acceptor.judge_propose(node, vote)
+    }
+
+    /// Room for the record of a change, to be handed to `apply`. It takes memory only for the first record of a slot, and changes nothing.
+    pub fn record_room(&self, change: &Change) -> Result<RecordRoom, AllocError>
+        ensures room { IfOk result (HasRecordRoom self.now change.now) }
+        ensures memory { OnErr result (held_at self.now.acceptor (slot_recorded change.now.after) ≡ None) }
+    {
+        self.acceptor.room(change.after.slot())
+    }
+
+    /// Makes a change of a record; there is room for it. It takes no memory.
+    pub fn apply(&mut self, change: Change, room: RecordRoom)
+        requires { HasRecordRoom self.old change room }
+        ensures { self.new ≡ recorded_in self.old change }
+    {
+        self.acceptor.apply_in(change, room);
     }
 
     /// The record of a slot; none if nothing was promised and nothing voted there. It takes no memory.
@@ -553,18 +567,6 @@ fn refusal(newest: &Decree, me: Author, attempted: Attempted) -> Option<GrantRef
     } else {
         None
     }
-}
-
-/// Takes in a change, if there is one.
-fn take_in(acceptor: &mut Acceptor, change: &Option<Change>) -> Result<(), AllocError>
-    ensures { OnOk result ((slot : SlotValue) → record_at acceptor.new slot ≡ changed_by change.now (record_at acceptor.old) slot) }
-{
-    let Some(change) = change else {
-        return Ok(());
-    };
-    let after = change.after.copy()?;
-    acceptor.apply(Change { after })?;
-    Ok(())
 }
 
 /// Ends the round that runs, if the chain reaches its place. It takes no memory.

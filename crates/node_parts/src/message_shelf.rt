@@ -13,6 +13,7 @@ ghost use Rattle.mc_model.specs.synod.Lists.{In};
 ghost use Rattle.waiting_requests.specs.Numbers.{IsLeastFrom};
 ghost use Rattle.shelf.specs.Shelved.{Serves, value_at, with_value};
 ghost use Rattle.node_parts.specs.Counting.{IsCountable, recounted_at};
+ghost use Rattle.node_parts.specs.Recording.{IsRecordable, recorded_at};
 ghost use Rattle.node_parts.specs.declared.listing.Listing.{Listing as ListingValue};
 ghost use Rattle.node_parts.specs.declared.message.Message.{Message as Filed};
 ghost use Rattle.node_parts.specs.Living.{IsNextBy, IsNextLive, IsPassedBy, IsPassedIn, dropped, dropped_at, is_kept_listed, is_live, is_live_in};
@@ -39,6 +40,7 @@ use mc_types::{Moment, MsgId};
 use shelf::Shelf;
 use std::alloc::{AllocError, Global};
 use std::marker::Model;
+use synod_acceptor::{Change, RecordRoom};
 use synod_learner::Recount;
 use tick_rules::Standpoint;
 
@@ -229,6 +231,20 @@ impl MessageShelf {
         count_on(&mut self.shelf, id, recount);
     }
 
+    /// Makes a change in what is kept of the message of this id, which is kept, and lists it: it may vote beyond what is decided. There is room for the
+    /// record. It takes no memory.
+    pub fn apply(&mut self, id: MsgId, change: Change, room: RecordRoom)
+        requires { IsRecordable self.old.entries id change room }
+        ensures entries { self.new.entries ≡ recorded_at self.old.entries id change }
+        ensures room { self.new.room ≡ self.old.room }
+        ensures listings { self.new.listings ≡ self.old.listings }
+    {
+        self.shelf.ascends();
+        apply_on(&mut self.shelf, id, change, room);
+        self.live.enlist(id);
+        awake::put(&mut self.awake.ids, id);
+    }
+
     /// Ends the round of each message, and takes those that are awake and decided off the list. No round runs of a message that is asleep or not
     /// listed, so it looks at none. It takes no memory.
     #[inline(never)]
@@ -287,6 +303,17 @@ fn count_on(shelf: &mut Shelf<Message>, id: MsgId, recount: Recount)
 {
     if let Some(message) = shelf.get_mut(id.number()) {
         message.count_anew(recount);
+    }
+}
+
+/// Makes a change in what is kept of the message of this id, which is kept; there is room for the record.
+fn apply_on(shelf: &mut Shelf<Message>, id: MsgId, change: Change, room: RecordRoom)
+    requires { IsRecordable shelf.old.entries id change room }
+    ensures entries { shelf.new.entries ≡ recorded_at shelf.old.entries id change }
+    ensures room { shelf.new.room ≡ shelf.old.room }
+{
+    if let Some(message) = shelf.get_mut(id.number()) {
+        message.apply(change, room);
     }
 }
 

@@ -1,2 +1,3 @@
 pub mod Slots
+pub mod Applied
 pub mod Tops

@@ -52,7 +52,7 @@ found_held (first ∷ others) slot (suc place) entry apart stands is =
 pub held_with : List (Slot × SlotRecord) → Slot → SlotRecord → Slot → Option SlotRecord
 held_with entries slot new other = if same_slot other slot then Some new else held_at entries other
 
-with_first : (first : Slot × SlotRecord) (others : List (Slot × SlotRecord)) (slot : Slot) (new : SlotRecord) (other : Slot) →
+pub with_first : (first : Slot × SlotRecord) (others : List (Slot × SlotRecord)) (slot : Slot) (new : SlotRecord) (other : Slot) →
     first.0 ≡ slot →
     held_at ((slot, new) ∷ others) other ≡ held_with (first ∷ others) slot new other
 unfolding held_with
@@ -64,7 +64,7 @@ with_first first others slot new other same = elim (by_first (slot, new) other) 
       ∙ sym (ap (λ (b : Bool). cond b (Some new) (held_at (first ∷ others) other)) (is_other other slot (λ is. differs (sym is))))
 ]
 
-with_later : (first : Slot × SlotRecord) (others changed : List (Slot × SlotRecord)) (slot : Slot) (new : SlotRecord) (other : Slot) →
+pub with_later : (first : Slot × SlotRecord) (others changed : List (Slot × SlotRecord)) (slot : Slot) (new : SlotRecord) (other : Slot) →
     (first.0 ≡ slot → ⊥) → held_at changed other ≡ held_with others slot new other →
     held_at (first ∷ changed) other ≡ held_with (first ∷ others) slot new other
 unfolding held_with
@@ -93,14 +93,14 @@ held-set (first ∷ others) slot (suc place) entry new apart stands is other =
 
 -- ---- a record behind the others
 
-only : (slot : Slot) (new : SlotRecord) (other : Slot) → held_at ((slot, new) ∷ []) other ≡ held_with [] slot new other
+pub only : (slot : Slot) (new : SlotRecord) (other : Slot) → held_at ((slot, new) ∷ []) other ≡ held_with [] slot new other
 unfolding held_with
 only slot new other = elim (by_first (slot, new) other) [
   | inl is ↦ held_first (slot, new) [] other is ∙ sym (ap (λ (b : Bool). cond b (Some new) None) (is_same other slot (sym is)))
   | inr differs ↦ held_later (slot, new) [] other differs ∙ sym (ap (λ (b : Bool). cond b (Some new) None) (is_other other slot (λ is. differs (sym is))))
 ]
 
-none_before : (first : Slot × SlotRecord) (others : List (Slot × SlotRecord)) (slot : Slot) → held_at (first ∷ others) slot ≡ None →
+pub none_before : (first : Slot × SlotRecord) (others : List (Slot × SlotRecord)) (slot : Slot) → held_at (first ∷ others) slot ≡ None →
     (first.0 ≡ slot → ⊥) × (held_at others slot ≡ None)
 none_before first others slot none = elim (by_first first slot) [
   | inl is ↦ let some = held_first first others slot is in absurd (cc)

@@ -7,13 +7,15 @@ ghost use Rattle.mc_model.specs.synod.Acceptor.{blank, with_record};
 ghost use Rattle.node_model.specs.Acceptor.{prepare_judged, propose_judged, told_of};
 ghost use Rattle.synod_acceptor.specs.Votes.{record_of, slot_in, slot_recorded, told_vote, vote_of};
 ghost use Rattle.synod_acceptor.specs.Packets.{packet_of};
-ghost use Rattle.synod_acceptor.specs.Records.{IsAbove, IsPlace, IsTopOf, Passes, entries_of, held_at, record_at};
+ghost use Rattle.synod_acceptor.specs.Applied.{HasPlace, with_entry};
+ghost use Rattle.synod_acceptor.specs.Records.{IsAbove, IsPlace, IsTopOf, Passes, entries_of, entry_of, held_at, record_at};
 ghost use Rattle.synod_acceptor.specs.Verdicts.{Changes};
 ghost use Rattle.synod_acceptor.specs.declared.packet.Packet.TheVariants as sent;
 ghost use Rattle.synod_acceptor.specs.declared.vote.Report.TheVariants as reports;
 
 use crate::packet::Packet;
 use crate::record::{Change, Record};
+use crate::room::RecordRoom;
 use crate::vote::{Report, Vote};
 use mc_types::{Ballot, MsgId, NodeNo, Slot};
 use std::alloc::{AllocError, Global};
@@ -144,6 +146,29 @@ impl Acceptor {
         };
         self.records[place] = change.after;
         Ok(())
+    }
+
+    /// Room for the record of a slot, to be handed to `apply_in`. It takes memory only for the first record of a slot, and changes nothing.
+    pub fn room(&self, slot: Slot) -> Result<RecordRoom, AllocError>
+        ensures place { IfOk result (HasPlace self.now slot) }
+        ensures memory { OnErr result (held_at self.now slot ≡ None) }
+    {
+        let alloc = *self.records.allocator();
+        match place_of(&self.records, slot) {
+            Some(_) => Ok(RecordRoom::none(alloc)),
+            None => RecordRoom::of(alloc, self.records.len() + 1),
+        }
+    }
+
+    /// Puts the new record of a change in the place of the old one of its slot, as `apply` does; there is room for it. It takes no memory.
+    pub fn apply_in(&mut self, change: Change, room: RecordRoom)
+        requires { HasPlace self.old (slot_recorded change.after) room }
+        ensures { self.new ≡ with_entry self.old (entry_of change.after) }
+    {
+        match place_of(&self.records, change.after.slot()) {
+            Some(place) => self.records[place] = change.after,
+            None => room.push(&mut self.records, change.after),
+        }
     }
 
     /// The vote at the highest place of a message at which it voted; none if it did not. It takes no memory.

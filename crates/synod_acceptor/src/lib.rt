@@ -5,6 +5,7 @@ mod acceptor;
 mod laws;
 mod packet;
 mod record;
+mod room;
 mod vote;
 
 pub use acceptor::{Acceptor, Verdict};
@@ -12,4 +13,5 @@ pub use fate_chain::{Author, Chain, MOST_DECREES};
 pub use laws::verdicts_keep_the_rule;
 pub use packet::{Name, Packet};
 pub use record::{Change, Record};
+pub use room::RecordRoom;
 pub use vote::{Report, Vote};

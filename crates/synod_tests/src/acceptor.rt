@@ -40,7 +40,8 @@ fn applied(rt: &impl Abort, acceptor: &mut Acceptor, verdict: Verdict) -> (Answe
     match verdict.change {
         None => (answer, false),
         Some(change) => {
-            acceptor.apply(change).expect(rt, "memory");
+            let room = acceptor.room(change.after.slot()).expect(rt, "memory");
+            acceptor.apply_in(change, room);
             (answer, true)
         }
     }

@@ -3,7 +3,8 @@
 use crate::same::assert_same;
 use crate::values::{ballot, vote};
 use stable_store::{
-    FailingStore, Found, Hold, HoldingStore, Latch, LatchHold, ListStore, StableStore, StoreFault,
+    FailingStore, Found, GroupStore, Hold, HoldingStore, Latch, LatchHold, ListStore, StableStore,
+    StoreFault,
 };
 use std::alloc::Global;
 use std::process::Abort;
@@ -122,6 +123,65 @@ fn the_second_of_two_saves_is_the_next_to_fail(rt: HostRuntime) {
     let after = store.fails_next();
     drop(store);
     assert_same(&rt, &(before, fault, after), &(false, None, true));
+}
+
+// The fault of a group in which the ballots of these numbers are promised.
+fn fault_of_group<S: GroupStore>(
+    rt: &impl Abort,
+    alloc: Global,
+    store: &mut S,
+    promised: &[u64],
+) -> Option<StoreFault> {
+    let mut changes = Vec::new(alloc);
+    for number in promised {
+        let change = change(rt, alloc, *number);
+        changes.push(change).ok().expect(rt, "memory");
+    }
+    let saved = store.save_all(&changes);
+    drop(changes);
+    saved.err()
+}
+
+// The faults of three groups: of two changes, of none, and of one; what is loaded then, and how many saves failed.
+fn groups_and_loaded<S: GroupStore>(rt: &impl Abort, alloc: Global, store: &mut S) -> Seen {
+    let first = fault_of_group(rt, alloc, store, &[262161, 262162]);
+    assert_same(rt, &fault_of_group(rt, alloc, store, &[]), &None);
+    let second = fault_of_group(rt, alloc, store, &[262163]);
+    let loaded = loaded(rt, store);
+    ((first, second), loaded, store.failures())
+}
+
+#[test]
+fn groups_are_loaded(rt: HostRuntime) {
+    let alloc = rt.alloc();
+    let mut store = ListStore::make(alloc);
+    let seen = groups_and_loaded(&rt, alloc, &mut store);
+    drop(store);
+    assert_same(&rt, &seen, &((None, None), (3, Some(262163)), 0));
+}
+
+#[test]
+fn a_group_fails_as_one_save(rt: HostRuntime) {
+    let alloc = rt.alloc();
+    let mut store = FailingStore::make(ListStore::make(alloc), 2, Found::After);
+    let seen = groups_and_loaded(&rt, alloc, &mut store);
+    drop(store);
+    let faults = (None, Some(StoreFault::Device));
+    assert_same(&rt, &seen, &(faults, (3, Some(262163)), 1));
+    let mut store = FailingStore::make(ListStore::make(alloc), 1, Found::Before);
+    let seen = groups_and_loaded(&rt, alloc, &mut store);
+    drop(store);
+    let faults = (Some(StoreFault::Device), None);
+    assert_same(&rt, &seen, &(faults, (1, Some(262163)), 1));
+}
+
+#[test]
+fn a_group_that_is_held_is_done(rt: HostRuntime) {
+    let alloc = rt.alloc();
+    let mut store = HoldingStore::make(ListStore::make(alloc), 1, AtOnce { asked: 0 });
+    let seen = groups_and_loaded(&rt, alloc, &mut store);
+    drop(store);
+    assert_same(&rt, &seen, &((None, None), (3, Some(262163)), 0));
 }
 
 // How many records were saved.

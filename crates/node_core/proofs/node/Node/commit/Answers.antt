@@ -1,7 +1,10 @@
-use Rattle.std.proofs.Common.{rules, ◌≡◌, refl, sym, ap, subst, ◌∙◌, Bool, true, false}
+use Rattle.std.proofs.Common.{rules, ◌≡◌, refl, sym, ap, subst, ◌∙◌, Bool, Option, true, false}
 use Rattle.std.proofs.lemmas.Bool.{true≢false}
-use Rattle.node_core.specs.Nodes.{HasStopped, HasTaken, IsStored, IsUnmoved, Standing, seen}
+use Rattle.stable_store.specs.Stored.{Stays}
+use Rattle.synod_acceptor.specs.declared.packet.Packet.{Packet}
+use Rattle.node_core.specs.Nodes.{HasStopped, HasTaken, IsStored, IsUnmoved, Standing, records_in, seen}
 use Rattle.node_core.specs.Pendings.{Awaited}
+use Rattle.node_core.specs.Stops.{IsUnfinished}
 use Rattle.node_core.proofs.Committing.{taken}
 use Rattle.node_core.proofs.Stopping.{cut}
 use Rattle.node_core.proofs.Storing.{stored_once}
@@ -76,6 +79,21 @@ returns-in-Err-Device-clause-device g c = λ device.
       unfinished = is.is;
       stopped = refl;
     })
+
+pub invariant_of-self-in-Err : goal.invariant_of-self-in-Err
+invariant_of-self-in-Err g c =
+    let stored = g.S.StableStore.stored in
+    let kept = c.self.inside.kept in
+    let works : c.self.inside.broken ≡ false = search rules in
+    let stays : Stays (stored c.self.inside.store) (stored c.save.new.store) = c.in-Err.ensures.memory (search rules) in
+    let holds = stays.records (records_in kept) (c.self.invariant.saved works) in
+    record {
+      saved = λ works. holds;
+      own = c.self.invariant.own;
+      finished = c.self.invariant.finished;
+      halted = λ left may. subst (λ (packet : Option Packet). IsUnfinished kept left packet) (sym (c.self.invariant.finished works))
+          (g.met.S.StableStore.settled c.save.new.store (records_in kept) left holds may);
+    }
 
 pub returns-clause-broken : goal.returns-clause-broken
 returns-clause-broken g c = search rules

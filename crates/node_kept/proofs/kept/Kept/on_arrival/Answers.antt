@@ -58,11 +58,9 @@ returns c =
     (rw id at c.in_ok-step.ensures.step) gives in
     subst (λ (serial : ℕ). IsStep k (on_arrival k.setup (kept_of k) request) (record {
       outputs = outputs;
-      change = c.in_ok-step.step.change;
       next = record c.in_ok-step.step.next { serial = serial; given = c.next_ticket-ticket.result; queue = changes.Push c.in_ok-held.held };
     })) (sym c.serial_after-serial.ensures)
     (subst (λ (given : ℕ). IsStep k (on_arrival k.setup (kept_of k) request) (record {
       outputs = outputs;
-      change = c.in_ok-step.step.change;
       next = record c.in_ok-step.step.next { serial = next_serial request k.serial; given = given; queue = changes.Push c.in_ok-held.held };
     })) (sym c.next_ticket-ticket.ensures) after)

@@ -1,16 +1,35 @@
-use Rattle.std.proofs.Common.{◌≡◌, ap}
-use Rattle.std.proofs.lemmas.Result.{IfOk-weaker}
+use Rattle.std.proofs.Common.{◌≡◌, Some, sym, ap}
 use Rattle.mc_model.specs.synod.Packet.{Slot}
-use Rattle.node_model.specs.Acceptor.{prepare_judged}
-use Rattle.node_kept.proofs.Answering.{answered}
+use Rattle.mc_model.specs.synod.Acceptor.{SlotRecord}
+use Rattle.node_model.specs.Acceptor.{Judgement, prepare_judged}
+use Rattle.node_model.specs.Packets.{on_prepare}
+use Rattle.node_kept.specs.Keeping.{kept_of}
+use Rattle.shelf.specs.Shelved.{value_at}
+use Rattle.node_kept.specs.Steps.{HasRoom, IsStep}
+use Rattle.node_kept.proofs.Answering.{answered_first, answered_there, if_both}
 use Rattle.node_kept.proofs.kept.Kept.on_prepare.Goals as goal
 
-pub returns : goal.returns
-returns c =
+pub returns-in_ok-verdict-in-Some : goal.returns-in_ok-verdict-in-Some
+returns-in_ok-verdict-in-Some c =
+    let k = c.args.self.now in
+    let slot = c.args.slot in
+    let judgement : SlotRecord → Judgement = (λ r. prepare_judged k.setup.node c.args.slot c.args.ballot r) in
     let id : c.slot.inside.id ≡ c.args.slot.id = ap (λ (s : Slot). s.id) c.slot.view_is in
-    let taken = rw id at c.in_ok-message.ensures in
-    let judged = rw c.node.ensures at c.in_ok-verdict.ensures in
-    IfOk-weaker c.answer.result _ _ (λ step is.
-    answered c.args.self.now c.args.slot c.in_ok-message.message c.promise.new.self
-    (λ r. prepare_judged c.args.self.now.setup.node c.args.slot c.args.ballot r) c.in_ok-verdict.verdict step taken judged
-    (rw id at is)) c.answer.ensures
+    let found : Some c.in-Some.message.now ≡ value_at k.messages.entries slot.id = rw id at (rw c.in-Some.is at c.find.ensures.value) in
+    let judged = rw c.node.ensures at c.in_ok-verdict-in-Some.ensures.judged in
+    if_both c.answer.result _ _ _ (λ step is none.
+    answered_there k slot c.in-Some.message.now judgement c.in_ok-verdict-in-Some.verdict step judged is c.ascends.ensures (sym found) none)
+    c.answer.ensures.answer c.answer.ensures.messages
+
+pub returns-in_ok-verdict-in-None : goal.returns-in_ok-verdict-in-None
+returns-in_ok-verdict-in-None c =
+    let k = c.args.self.now in
+    let slot = c.args.slot in
+    let judgement : SlotRecord → Judgement = (λ r. prepare_judged k.setup.node c.args.slot c.args.ballot r) in
+    let id : c.slot.inside.id ≡ c.args.slot.id = ap (λ (s : Slot). s.id) c.slot.view_is in
+    let taken = rw id at c.first-message.ensures in
+    let judged = rw c.node-in-None.ensures at c.in_ok-verdict-in-None.ensures.judged in
+    if_both c.answer_first.result _ (λ step. HasRoom k.messages step.next) _ (λ step so room. so room)
+    (if_both c.answer_first.result _ _ (λ step. HasRoom k.messages step.next → IsStep k (on_prepare k.setup (kept_of k) c.args.slot c.args.ballot) step) (λ step is puts. λ room.
+    answered_first k slot c.first-message.result judgement c.in_ok-verdict-in-None.verdict step judged is taken (rw id at puts) room)
+    c.answer_first.ensures.answer c.answer_first.ensures.messages) c.answer_first.ensures.room

@@ -1,14 +1,35 @@
-use Rattle.std.proofs.lemmas.Result.{IfOk-weaker}
-use Rattle.node_model.specs.Acceptor.{propose_judged}
+use Rattle.std.proofs.Common.{◌≡◌, Some, sym}
+use Rattle.mc_model.specs.synod.Acceptor.{SlotRecord}
+use Rattle.node_model.specs.Acceptor.{Judgement, propose_judged}
+use Rattle.node_model.specs.Packets.{on_propose}
 use Rattle.synod_acceptor.specs.Votes.{slot_in, vote_of}
-use Rattle.node_kept.proofs.Answering.{answered}
+use Rattle.node_kept.specs.Keeping.{kept_of}
+use Rattle.shelf.specs.Shelved.{value_at}
+use Rattle.node_kept.specs.Steps.{HasRoom, IsStep}
+use Rattle.node_kept.proofs.Answering.{answered_first, answered_there, if_both}
 use Rattle.node_kept.proofs.kept.Kept.on_propose.Goals as goal
 
-pub returns : goal.returns
-returns c =
-    let taken = rw c.id-id.ensures at c.in_ok-message.ensures in
-    let judged = rw c.node.ensures at c.in_ok-verdict.ensures in
-    IfOk-weaker c.answer.result _ _ (λ step is.
-    answered c.args.self.now (slot_in c.args.vote.now) c.in_ok-message.message c.vote.new.self
-    (λ r. propose_judged c.args.self.now.setup.node (slot_in c.args.vote.now)
-    (vote_of c.args.vote.now) r) c.in_ok-verdict.verdict step taken judged (rw c.id-id.ensures at is)) c.answer.ensures
+pub returns-in_ok-verdict-in-Some : goal.returns-in_ok-verdict-in-Some
+returns-in_ok-verdict-in-Some c =
+    let k = c.args.self.now in
+    let slot = slot_in c.args.vote.now in
+    let judgement : SlotRecord → Judgement = (λ r. propose_judged k.setup.node (slot_in c.args.vote.now) (vote_of c.args.vote.now) r) in
+    let id = c.id-id.ensures in
+    let found : Some c.in-Some.message.now ≡ value_at k.messages.entries slot.id = rw id at (rw c.in-Some.is at c.find.ensures.value) in
+    let judged = rw c.node.ensures at c.in_ok-verdict-in-Some.ensures.judged in
+    if_both c.answer.result _ _ _ (λ step is none.
+    answered_there k slot c.in-Some.message.now judgement c.in_ok-verdict-in-Some.verdict step judged is c.ascends.ensures (sym found) none)
+    c.answer.ensures.answer c.answer.ensures.messages
+
+pub returns-in_ok-verdict-in-None : goal.returns-in_ok-verdict-in-None
+returns-in_ok-verdict-in-None c =
+    let k = c.args.self.now in
+    let slot = slot_in c.args.vote.now in
+    let judgement : SlotRecord → Judgement = (λ r. propose_judged k.setup.node (slot_in c.args.vote.now) (vote_of c.args.vote.now) r) in
+    let id = c.id-id.ensures in
+    let taken = rw id at c.first-message.ensures in
+    let judged = rw c.node-in-None.ensures at c.in_ok-verdict-in-None.ensures.judged in
+    if_both c.answer_first.result _ (λ step. HasRoom k.messages step.next) _ (λ step so room. so room)
+    (if_both c.answer_first.result _ _ (λ step. HasRoom k.messages step.next → IsStep k (on_propose k.setup (kept_of k) slot (vote_of c.args.vote.now)) step) (λ step is puts. λ room.
+    answered_first k slot c.first-message.result judgement c.in_ok-verdict-in-None.verdict step judged is taken (rw id at puts) room)
+    c.answer_first.ensures.answer c.answer_first.ensures.messages) c.answer_first.ensures.room

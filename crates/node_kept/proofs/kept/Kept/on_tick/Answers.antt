@@ -1,9 +1,9 @@
-use Rattle.std.proofs.Common.{◌≡◌, ℕ, false, List, [], length, map, max, refl, sym, ap, subst, ◌∙◌, rules}
+use Rattle.std.proofs.Common.{◌≡◌, ℕ, false, [], length, map, max, refl, sym, ap, subst, ◌∙◌, rules}
 use Rattle.std.proofs.lemmas.Bool.{true≢false}
 use Rattle.std.specs.List.{list_any}
 use Rattle.std.specs.Vec.{vec_capacity}
 use Rattle.node_model.specs.Requests.{is_untold}
-use Rattle.node_model.specs.Ticks.{ids_of, is_late, ticked}
+use Rattle.node_model.specs.Ticks.{is_late}
 use Rattle.waiting_requests.specs.Queues.{timely}
 use Rattle.waiting_requests.specs.Waiting.{held_in}
 use Rattle.waiting_requests.specs.Replying.{reply_given}
@@ -11,7 +11,6 @@ use Rattle.node_parts.specs.Reaching.{reach_of}
 use Rattle.synod_acceptor.specs.Packets.{packet_of}
 use Rattle.node_kept.specs.Idling.{NoneFits}
 use Rattle.node_kept.specs.Keeping.{kept_of}
-use Rattle.node_kept.specs.Ticking.{IsTurned}
 use Rattle.node_kept.proofs.Idling.{none_passes, timely_in}
 use Rattle.node_kept.proofs.TickSteps.{room_serves, ticked_at}
 use Rattle.node_kept.proofs.kept.Kept.on_tick.Goals as goal
@@ -45,7 +44,7 @@ returns-clause-step c =
       replies = replies;
       receipts = c.telling.ensures.receipts;
       granted = c.telling.ensures.granted;
-      change = refl;
+      change = same.change;
     })
     c.in_ok-turns.ensures.turned
 
