@@ -3,7 +3,7 @@
 use mc_types::Incarnation;
 use sql_store::SqlStore;
 use sqlite::{File, FileStore, MemStore};
-use stable_store::{StableStore, StoreFault};
+use stable_store::{GroupStore, StableStore, StoreFault};
 use std::alloc::Global;
 use std::rt::HostRuntime;
 use synod_acceptor::{Change, Record};
@@ -82,6 +82,15 @@ impl StableStore for NodeStore {
         match self {
             NodeStore::OnDisk(store) => store.failures(),
             NodeStore::InMemory(store) => store.failures(),
+        }
+    }
+}
+
+impl GroupStore for NodeStore {
+    fn save_all(&mut self, changes: &[Change]) -> Result<(), StoreFault> {
+        match self {
+            NodeStore::OnDisk(store) => store.save_all(changes),
+            NodeStore::InMemory(store) => store.save_all(changes),
         }
     }
 }

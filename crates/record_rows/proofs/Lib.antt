@@ -11,6 +11,7 @@ pub mod BesideLemmas
 pub mod WhoseLemmas
 pub mod WhoseStates
 pub mod PutStates
+pub mod GroupLemmas
 pub mod LifeStates
 pub mod ShownLemmas
 pub mod ReadLemmas

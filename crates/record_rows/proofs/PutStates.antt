@@ -31,13 +31,13 @@ pub bound_are : (row : SlotRow) (id place promised voted chain : ValueRef) → o
 bound_are row id place promised voted chain a b c d e = rw (a, b, c, d, e)
 
 -- what is left of the database, under the schema of a layout
-record Left (layout : Layout) (beside : List Table) (row : SlotRow) (db : Trees) (after : Database) : Type 0 where
-  schema : after.schema ≡ schema_of layout beside
-  slots : (slots : Slots) → AreSlots (db (slots_tree layout)) slots → AreSlots (after.trees (slots_tree layout)) (with_row row slots)
-  life : after.trees (life_tree layout) ≡ db (life_tree layout)
-  others : KeepsRows beside db after.trees
+pub record Left (layout : Layout) (beside : List Table) (row : SlotRow) (db : Trees) (after : Database) : Type 0 where
+  pub schema : after.schema ≡ schema_of layout beside
+  pub slots : (slots : Slots) → AreSlots (db (slots_tree layout)) slots → AreSlots (after.trees (slots_tree layout)) (with_row row slots)
+  pub life : after.trees (life_tree layout) ≡ db (life_tree layout)
+  pub others : KeepsRows beside db after.trees
 
-left : (layout : Layout) (beside : List Table) → AreBeside beside → (s : State) (row : SlotRow) (text : List ℕ) (tally : Tally) (db : Trees) (after : Database)
+pub left : (layout : Layout) (beside : List Table) → AreBeside beside → (s : State) (row : SlotRow) (text : List ℕ) (tally : Tally) (db : Trees) (after : Database)
     → Does s.step_limit (mode_of s) (params_of row) (record { schema = schema_of layout beside; trees = db }) text None (put_command layout) (Ok
     (tally, after)) → Left layout beside row db after
 left life_first beside are s row text tally db after h =
@@ -66,10 +66,10 @@ left slots_first beside are s row text tally db after h =
 pub sound_as : (schema : Schema) (after : Database) → after.schema ≡ schema → IsDatabase after → IsDatabase (record { schema = schema; trees = after.trees })
 sound_as schema after is sound = subst (λ k. IsDatabase (record { schema = k; trees = after.trees })) is sound
 
-put_writes : (layout : Layout) → IsWrite (put_command layout)
+pub put_writes : (layout : Layout) → IsWrite (put_command layout)
 put_writes layout = record { runs = λ old new text params count h. h; commit = λ e. cc; release = λ name e. cc }
 
-abbrev text_in : Layout → List Table → List ℕ
+abbrev pub text_in : Layout → List Table → List ℕ
 text_in layout beside = statement_of put_text (understood (schema_of layout beside) put_text)
 
 module _ (row : SlotRow) (old : State) where

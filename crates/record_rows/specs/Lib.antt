@@ -3,6 +3,7 @@ pub mod Beside
 pub mod Kept
 pub mod Content
 pub mod Ours
+pub mod Group
 pub mod Found
 pub mod Added
 pub mod Whose

@@ -4,6 +4,7 @@
 mod adding;
 mod beside;
 mod fault;
+mod group;
 mod life;
 mod making;
 mod probe;
@@ -14,6 +15,7 @@ mod whose;
 
 pub use adding::{add_life, add_slots};
 pub use fault::{Fault, ReadFault};
+pub use group::put_slots;
 pub use life::{put_incarnation, read_incarnation};
 pub use making::make_tables;
 pub use row::SlotRow;

@@ -15,7 +15,7 @@ use sqlite::types::ToSql;
 use sqlite::{Alter, Connection};
 use std::alloc::Global;
 
-const PUT: &str =
+pub(crate) const PUT: &str =
     "INSERT INTO slots (id, place, promised, voted, chain) VALUES (?1, ?2, ?3, ?4, ?5) \
     ON CONFLICT (id, place) DO UPDATE SET promised = excluded.promised, voted = excluded.voted, chain = excluded.chain";
 

@@ -18,6 +18,28 @@ const PUT: &[Step] = &[
     ))),
 ];
 
+// Rows that are put at once are there in their order: of two with one key the second is. No rows are none.
+const TOGETHER: &[Step] = &[
+    Step::Writes(Write::Rows(&[]), Ok(())),
+    Step::Sees(NO_ROWS),
+    Step::Writes(Write::Rows(&[((1000200001, 0, 262161, 0), &[])]), Ok(())),
+    Step::Writes(
+        Write::Rows(&[
+            ((1000100001, 1, 262161, 262161), &[1, 2]),
+            ((1000100001, 0, 262161, 262161), &[1]),
+            ((1000100001, 1, 524305, 262161), &[3, 4]),
+            ((1000200001, 0, 262177, 262177), &[7]),
+        ]),
+        Ok(()),
+    ),
+    Step::Sees(Ok((
+        Some(((1000100001, 0, 262161, 262161), (1, Some(1), None))),
+        Some(((1000100001, 1, 524305, 262161), (2, Some(3), Some(4)))),
+        Some(((1000200001, 0, 262177, 262177), (1, Some(7), None))),
+        None,
+    ))),
+];
+
 const INCARNATIONS: &[Step] = &[
     Step::Began(Ok(None)),
     Step::Writes(Write::Incarnation(None, 1), Ok(())),
@@ -40,6 +62,8 @@ const RAW: &[Step] = &[Step::Sees(Ok((
 const ROWS: &[Row] = &[
     (&[LIFE, SLOTS], PUT, Found::LifeFirst),
     (&[SLOTS, LIFE], PUT, Found::SlotsFirst),
+    (&[LIFE, SLOTS], TOGETHER, Found::LifeFirst),
+    (&[SLOTS, LIFE], TOGETHER, Found::SlotsFirst),
     (&[SLOTS, LIFE], INCARNATIONS, Found::SlotsFirst),
     (
         &[

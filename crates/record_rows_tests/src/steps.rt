@@ -3,8 +3,8 @@
 use crate::same::assert_same;
 use record_rows::{
     Fault, Found, ReadFault, SlotRow, WhoseRow, add_beside, add_life, add_slots, find_tables,
-    has_whose, make_tables, put_incarnation, put_slot, put_whose, read_incarnation, read_slots,
-    read_whose,
+    has_whose, make_tables, put_incarnation, put_slot, put_slots, put_whose, read_incarnation,
+    read_slots, read_whose,
 };
 use sqlite::{Alter, Connection};
 use std::alloc::Global;
@@ -38,6 +38,8 @@ pub enum Write {
     Beside,
     // A row with these numbers and this chain.
     Row(Numbers, &'static [u8]),
+    // Several such rows at once.
+    Rows(&'static [(Numbers, &'static [u8])]),
     // The incarnation behind this one.
     Incarnation(Option<i64>, i64),
     Whose(WhoseRow),
@@ -57,23 +59,30 @@ pub enum Step {
 // The statements that are run in a new database, the steps that are taken there, and which tables are found then.
 pub type Row<'a> = (&'a [&'a str], &'a [Step], Found);
 
-fn put<S: Alter>(
-    rt: &impl Abort,
-    alloc: Global,
-    conn: &mut Connection<S>,
-    numbers: Numbers,
-    chain: &[u8],
-) -> Result<(), Fault> {
+fn row(rt: &impl Abort, alloc: Global, numbers: Numbers, chain: &[u8]) -> SlotRow {
     let (id, place, promised, voted) = numbers;
     let chain = Vec::from_slice(alloc, chain).expect(rt, "octets");
-    let row = SlotRow {
+    SlotRow {
         id,
         place,
         promised,
         voted,
         chain,
-    };
-    put_slot(conn, &row)
+    }
+}
+
+fn put_all<S: Alter>(
+    rt: &impl Abort,
+    alloc: Global,
+    conn: &mut Connection<S>,
+    written: &[(Numbers, &[u8])],
+) -> Result<(), Fault> {
+    let mut rows = Vec::new(alloc);
+    for (numbers, chain) in written {
+        let row = row(rt, alloc, *numbers, chain);
+        rows.push(row).ok().expect(rt, "memory");
+    }
+    put_slots(conn, &rows)
 }
 
 fn written<S: Alter>(
@@ -87,7 +96,8 @@ fn written<S: Alter>(
         Write::Life => add_life(conn),
         Write::Both => make_tables(conn),
         Write::Beside => add_beside(conn),
-        Write::Row(numbers, chain) => put(rt, alloc, conn, numbers, chain),
+        Write::Row(numbers, chain) => put_slot(conn, &row(rt, alloc, numbers, chain)),
+        Write::Rows(rows) => put_all(rt, alloc, conn, rows),
         Write::Incarnation(last, next) => put_incarnation(conn, last, next),
         Write::Whose(row) => put_whose(conn, &row),
     }

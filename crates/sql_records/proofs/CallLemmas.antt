@@ -1,8 +1,10 @@
 -- What rows that are read or put say of records.
-use Rattle.std.proofs.Common.{◌≡◌, List, map, Option, Some, None, Ok, Err, Result, IfOk, OnOk, refl, sym, ap, ◌∙◌}
+use Rattle.std.proofs.Common.{◌≡◌, List, [], ◌∷◌, map, Option, Some, None, Ok, Err, Result, IfOk, OnOk, refl, sym, ap, ◌∙◌}
 use Rattle.std.specs.Prelude.{Vec}
 use Rattle.std.specs.declared.alloc.Global.{Global}
+use Rattle.mc_model.specs.synod.Acceptor.{Records}
 use Rattle.mc_model.specs.synod.Lists.{In}
+use Rattle.synod_acceptor.specs.declared.record.Change.{Change}
 use Rattle.synod_acceptor.specs.Records.{entries_of, record_at}
 use Rattle.synod_acceptor.specs.Votes.{Record}
 use Rattle.sqlite.specs.Order.{Row}
@@ -12,9 +14,11 @@ use Rattle.record_rows.specs.declared.row.SlotRow.{SlotRow}
 use Rattle.record_rows.specs.declared.fault.ReadFault.{ReadFault}
 use Rattle.record_rows.specs.Content.{AreAscending, AreSlots, Body, Entry, Slot, Slots, entry_of, slots_of, values_at, with_row}
 use Rattle.record_rows.specs.Ours.{HasPut, HasRead, HoldsNoSlots, IsOurs, PutsRow}
+use Rattle.record_rows.specs.Group.{HasPutRows, PutsRows, with_rows}
 use Rattle.record_rows.specs.Tables.{Layout}
-use Rattle.sql_records.specs.Calls.{HasPutRecord, HoldsNone, PutsRecord}
-use Rattle.sql_records.specs.Standing.{StandForEach, StandsFor, StandsForNone}
+use Rattle.stable_store.specs.Stored.{afters, changed, changed_all}
+use Rattle.sql_records.specs.Calls.{HasPutAll, HasPutRecord, HoldsNone, PutsAll, PutsRecord}
+use Rattle.sql_records.specs.Standing.{StandFor, StandForEach, StandsFor, StandsForNone}
 use Rattle.sql_records.specs.Stores.{HasRecords}
 use Rattle.sql_records.proofs.Standings.{stand_along, stand_for_none, stand_listed, stand_put}
 
@@ -76,6 +80,37 @@ puts_record old db row kept stands puts = record {
 pub has_put_record : (old new : State) (row : SlotRow) (kept : Record) → StandsFor (entry_of row) kept → HasPut row old new
     → HasPutRecord kept old new
 has_put_record old new row kept stands put = record { puts = puts_record old new.now.trees row kept stands put.puts; ours = put.ours }
+
+-- ---- putting the rows of a group
+
+stand_all : (rows : List SlotRow) (changes : List Change) (slots : Slots) (records : Records) → StandForEach (map entry_of rows) (afters changes)
+    → StandFor slots records → StandFor (with_rows rows slots) (changed_all changes records)
+stand_all [] [] slots records each stand = stand
+stand_all [] (change ∷ changes) slots records each stand = absurd each
+stand_all (row ∷ rows) [] slots records each stand = absurd each
+stand_all (row ∷ rows) (change ∷ changes) slots records each stand =
+    stand_all rows changes (with_row row slots) (changed change records) each.1 (stand_put slots records change.after row each.0 stand)
+
+pub puts_all : (old : State) (db : Trees) (rows : List SlotRow) (changes : List Change) → StandForEach (map entry_of rows) (afters changes)
+    → PutsRows rows old db → PutsAll changes old db
+puts_all old db rows changes each puts = record {
+  records = λ layout records ours has. record {
+    slots = with_rows rows has.slots;
+    are = puts.slots layout has.slots ours has.are;
+    stand = stand_all rows changes has.slots records each has.stand;
+  };
+  life = puts.life;
+}
+
+pub has_put_all : (old new : State) (rows : List SlotRow) (changes : List Change) → StandForEach (map entry_of rows) (afters changes)
+    → HasPutRows rows old new → HasPutAll changes old new
+has_put_all old new rows changes each put = record { puts = puts_all old new.now.trees rows changes each put.puts; ours = put.ours }
+
+pub has_put_none : (s : State) → HasPutAll [] s s
+has_put_none s = record {
+  puts = record { records = λ layout records ours has. has; life = λ layout ours. refl };
+  ours = λ layout ours. ours;
+}
 
 pub on_put : {P Q : Type 0} {F : Type 0} (r : Result (Unit {0}) F) → (P → Q) → OnOk r P → OnOk r Q
 on_put (Ok done) so is = so is

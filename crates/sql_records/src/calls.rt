@@ -1,6 +1,6 @@
 //! What a store asks of its connection.
 
-ghost use Rattle.std.specs.Prelude.{◌≡◌, ◌≢◌, ◌≤◌, ◌+◌, ◌⊎◌, ℕ, IfOk, IfErr, OnOk};
+ghost use Rattle.std.specs.Prelude.{◌≡◌, ◌≢◌, ◌≤◌, ◌+◌, ◌⊎◌, ℕ, [], Ok, IfOk, IfErr, OnOk};
 ghost use Rattle.sqlite.specs.State.{HasCleanDisk, Survives};
 ghost use Rattle.sqlite.specs.Held.{state};
 ghost use Rattle.record_rows.specs.Tables.{Layout};
@@ -9,16 +9,18 @@ ghost use Rattle.record_rows.specs.declared.fault.Fault.TheVariants.{Shut};
 ghost use Rattle.record_rows.specs.declared.fault.ReadFault.TheVariants as unread;
 ghost use Rattle.synod_acceptor.specs.Records.{entries_of, record_at};
 ghost use Rattle.sql_records.specs.Stores.{HasRecords, IsLast, IsStarted};
-ghost use Rattle.sql_records.specs.Calls.{HasNotStarted, HasPutNext, HasPutRecord, HasStartedAll, HoldsNone, PutsNext, PutsRecord};
+ghost use Rattle.sql_records.specs.Calls.{HasNotStarted, HasPutAll, HasPutNext, HasPutRecord, HasStartedAll, HoldsNone, PutsAll, PutsNext, PutsRecord};
 ghost use Rattle.sql_records.specs.declared.fault.NextFault.TheVariants.{Damaged, Failed, Incarnations};
 
 use crate::fault::NextFault;
-use crate::row::{records_of, row_of};
+use crate::row::{records_of, row_of, rows_of};
 use mc_types::{Incarnation, LAST_INCARNATION};
-use record_rows::{Fault, ReadFault, put_incarnation, put_slot, read_incarnation, read_slots};
+use record_rows::{
+    Fault, ReadFault, put_incarnation, put_slot, put_slots, read_incarnation, read_slots,
+};
 use sqlite::{Alter, Connection};
 use std::alloc::Global;
-use synod_acceptor::Record;
+use synod_acceptor::{Change, Record};
 
 /// All records, by the ids and places of their slots ascending.
 pub fn load_records<S: Alter>(
@@ -49,6 +51,27 @@ pub fn save_record<S: Alter>(
 {
     match row_of(alloc, kept) {
         Ok(row) => put_slot(conn, &row),
+        Err(_) => Err(Fault::Memory),
+    }
+}
+
+/// Stores the records of the changes in their order, each in place of that of its slot: all of them, or none. With no changes nothing is done.
+pub fn save_records<S: Alter>(
+    alloc: Global,
+    conn: &mut Connection<S>,
+    changes: &[Change],
+) -> Result<(), Fault>
+    ensures none { changes.now ≡ [] → (result ≡ Ok tt) × (conn.new ≡ conn.old) }
+    ensures ok { HasCleanDisk (state S.Store conn.new) → OnOk result (HasPutAll changes.now (state S.Store conn.old) (state S.Store conn.new)) }
+    ensures kept { HasCleanDisk (state S.Store conn.new) → IfErr result (λ fault. fault ≢ Shut → (layout : Layout) → IsOurs layout (state S.Store conn.old)
+        → Stands (state S.Store conn.old) (state S.Store conn.new)) }
+    ensures survives { Survives (state S.Store conn.old) (state S.Store conn.new) (PutsAll changes.now (state S.Store conn.old)) }
+{
+    if changes.is_empty() {
+        return Ok(());
+    }
+    match rows_of(alloc, changes) {
+        Ok(rows) => put_slots(conn, &rows),
         Err(_) => Err(Fault::Memory),
     }
 }

@@ -5,5 +5,5 @@ mod calls;
 mod fault;
 mod row;
 
-pub use calls::{load_records, raise_incarnation, save_record};
+pub use calls::{load_records, raise_incarnation, save_record, save_records};
 pub use fault::NextFault;

@@ -13,13 +13,14 @@ ghost use Rattle.record_rows.specs.Content.{Entry, body_of, entry_of, slot_of};
 ghost use Rattle.record_rows.specs.declared.fault.Fault.TheVariants.{Memory};
 ghost use Rattle.record_rows.specs.declared.fault.ReadFault.TheVariants.{Damaged, Failed};
 ghost use Rattle.mc_model.specs.synod.Lists.{In};
+ghost use Rattle.stable_store.specs.Stored.{afters};
 ghost use Rattle.sql_records.specs.Standing.{IsChainIn, IsKeyOf, IsVoteBy, IsVoteIn, StandForEach, StandsFor, StandsForNone};
 
 use fate_chain::{Chain, ChainFault, octets_are_of_one_chain};
 use mc_types::{Ballot, MsgId, Slot};
 use record_rows::{Fault, ReadFault, SlotRow};
 use std::alloc::{AllocError, Global};
-use synod_acceptor::{Record, Report, Vote};
+use synod_acceptor::{Change, Record, Report, Vote};
 
 /// The number of a column, if it is not negative.
 fn natural(number: i64) -> Result<u64, ReadFault>
@@ -174,4 +175,16 @@ pub(crate) fn row_of(alloc: Global, kept: &Record) -> Result<SlotRow, AllocError
         voted,
         chain,
     })
+}
+
+/// The rows that stand for the records of changes, in their order.
+pub(crate) fn rows_of(alloc: Global, changes: &[Change]) -> Result<Vec<SlotRow>, AllocError>
+    ensures { IfOk result (λ rows. StandForEach (map entry_of rows.items) (afters changes.now)) }
+{
+    let mut rows = Vec::with_capacity(alloc, changes.len())?;
+    for change in changes {
+        let next = row_of(alloc, &change.after)?;
+        rows.push(next)?;
+    }
+    Ok(rows)
 }

@@ -5,10 +5,10 @@ use crate::order::Order;
 use crate::settling::{count, settle};
 use mc_types::Incarnation;
 use record_rows::ReadFault;
-use sql_records::{NextFault, load_records, raise_incarnation, save_record};
+use sql_records::{NextFault, load_records, raise_incarnation, save_record, save_records};
 use sqlite::{Alter, Connection, Error, ErrorCode, File, FileStore, MemStore};
 use sqlite_trees::store::Store;
-use stable_store::{StableStore, StoreFault};
+use stable_store::{GroupStore, StableStore, StoreFault};
 use std::alloc::Global;
 use std::marker::Model;
 use std::rt::HostRuntime;
@@ -217,5 +217,20 @@ impl<S: Alter> StableStore for SqlStore<S> {
 
     fn failures(&self) -> u64 {
         self.failed
+    }
+}
+
+impl<S: Alter> GroupStore for SqlStore<S> {
+    fn save_all(&mut self, changes: &[Change]) -> Result<(), StoreFault> {
+        if changes.is_empty() {
+            return Ok(());
+        }
+        if self.spent {
+            return Err(count(&mut self.failed));
+        }
+        match save_records(self.alloc, &mut self.conn, changes) {
+            Ok(()) => Ok(()),
+            Err(fault) => Err(settle(&mut self.spent, &mut self.failed, fault)),
+        }
     }
 }

@@ -4,6 +4,8 @@
 #[cfg(test)]
 mod damage;
 #[cfg(test)]
+mod groups;
+#[cfg(test)]
 mod large;
 #[cfg(test)]
 mod looking;

@@ -5,7 +5,7 @@ use fate_chain::Chain;
 use mc_types::{Ballot, Incarnation, MsgId, Slot};
 use sql_store::{Said, SqlStore, WhoseRow};
 use sqlite::{Alter, Connection};
-use stable_store::{StableStore, StoreFault};
+use stable_store::{GroupStore, StableStore, StoreFault};
 use std::alloc::Global;
 use std::process::Abort;
 use synod_acceptor::{Change, Record, Report, Vote};
@@ -36,6 +36,7 @@ pub enum Step<'a> {
     Runs(&'a str),
     IsAdopted,
     Saves(Saved),
+    SavesAll(&'a [Saved]),
     Loads(Loading),
     // The incarnation that begins, or the fault. No failure was counted.
     Begins(Result<u16, StoreFault>),
@@ -68,6 +69,25 @@ fn change(rt: &impl Abort, alloc: Global, saved: Saved) -> Change {
     Change { after }
 }
 
+pub fn group(rt: &impl Abort, alloc: Global, saved: &[Saved]) -> Vec<Change> {
+    let mut changes = Vec::new(alloc);
+    for one in saved {
+        let change = change(rt, alloc, *one);
+        changes.push(change).ok().expect(rt, "memory");
+    }
+    changes
+}
+
+fn fault_of_group<S: Alter>(
+    rt: &impl Abort,
+    alloc: Global,
+    store: &mut SqlStore<S>,
+    saved: &[Saved],
+) -> Option<StoreFault> {
+    let changes = group(rt, alloc, saved);
+    store.save_all(&changes).err()
+}
+
 fn fault_of_save<S: Alter>(store: &mut SqlStore<S>, change: Change) -> Option<StoreFault> {
     store.save(&change).err()
 }
@@ -92,7 +112,7 @@ fn loaded_of(record: &Record) -> Loaded {
     )
 }
 
-fn load<S: Alter>(store: &mut SqlStore<S>) -> Loading {
+pub fn load<S: Alter>(store: &mut SqlStore<S>) -> Loading {
     let records = store.load()?;
     let first = records.first().map(loaded_of);
     let last = records.last().map(loaded_of);
@@ -113,6 +133,10 @@ fn take<S: Alter>(
     match step {
         Step::Saves(saved) => {
             let fault = fault_of_save(store, change(rt, alloc, saved));
+            assert_same(rt, &(at, fault), &(at, None));
+        }
+        Step::SavesAll(saved) => {
+            let fault = fault_of_group(rt, alloc, store, saved);
             assert_same(rt, &(at, fault), &(at, None));
         }
         Step::Loads(wanted) => assert_same(rt, &(at, load(store)), &(at, wanted)),

@@ -3,7 +3,7 @@ use Rattle.std.proofs.Common.{refl, sym, inl, inr}
 use Rattle.mc_model.specs.synod.Acceptor.{Records}
 use Rattle.synod_acceptor.specs.Records.{record_at}
 use Rattle.stable_store.specs.Stored.{AreSame}
-use Rattle.stable_store.specs.Listing.{SaysOfLeavesNext, SaysOfLeavesSaved, SaysOfSaves, SaysOfStays}
+use Rattle.stable_store.specs.Listing.{SaysOfLeavesNext, SaysOfLeavesSaved, SaysOfLeavesSavedAll, SaysOfSaves, SaysOfSavesAll, SaysOfStays}
 
 itself : (records : Records) → AreSame records records
 itself records = record { each = λ slot. refl }
@@ -22,6 +22,15 @@ saves change old new before after is = is (record_at old.entries) (itself (recor
 
 pub leaves_saved : SaysOfLeavesSaved
 leaves_saved change old new before after is = elim (is.records (record_at new.entries) (itself (record_at new.entries))) [
+  | inl was ↦ inl (other_way (record_at old.entries) (record_at new.entries) was)
+  | inr done ↦ inr (done (record_at old.entries) (itself (record_at old.entries)))
+]
+
+pub saves_all : SaysOfSavesAll
+saves_all changes old new before after is = is (record_at old.entries) (itself (record_at old.entries))
+
+pub leaves_saved_all : SaysOfLeavesSavedAll
+leaves_saved_all changes old new before after is = elim (is.records (record_at new.entries) (itself (record_at new.entries))) [
   | inl was ↦ inl (other_way (record_at old.entries) (record_at new.entries) was)
   | inr done ↦ inr (done (record_at old.entries) (itself (record_at old.entries)))
 ]

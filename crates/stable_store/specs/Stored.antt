@@ -1,10 +1,10 @@
 -- What is stored (own).
-use Rattle.std.specs.Prelude.{◌≡◌, ◌⊎◌, ℕ, ◌+◌, ◌≤◌, min, List}
+use Rattle.std.specs.Prelude.{◌≡◌, ◌⊎◌, ℕ, ◌+◌, ◌≤◌, min, List, [], ◌∷◌, map}
 use Rattle.mc_model.specs.synod.Packet.{Slot}
 use Rattle.mc_model.specs.synod.Acceptor.{Records, SlotRecord, with_record}
 use Rattle.synod_acceptor.specs.declared.record.Change.{Change}
 use Rattle.synod_acceptor.specs.Records.{record_at}
-use Rattle.synod_acceptor.specs.Votes.{record_of, slot_recorded}
+use Rattle.synod_acceptor.specs.Votes.{Record, record_of, slot_recorded}
 
 -- the records of two stores are the same, slot by slot
 pub record AreSame (one other : Records) : Type 0 where
@@ -56,6 +56,19 @@ changed change records = with_record records (slot_recorded change.after) (recor
 abbrev pub Saves : Change → Stored → Stored → Type 0
 Saves change old new = (records : Records) → old.holds records → new.holds (changed change records)
 
+-- the same with those of a group of changes, in their order: of several of a slot the last counts
+abbrev pub changed_all : List Change → Records → Records
+changed_all [] records = records
+changed_all (change ∷ more) records = changed_all more (changed change records)
+
+-- the records of a group, in its order
+abbrev pub afters : List Change → List Record
+afters changes = map (λ (change : Change). change.after) changes
+
+-- the records of a group stand in the place of the old ones
+abbrev pub SavesAll : List Change → Stored → Stored → Type 0
+SavesAll changes old new = (records : Records) → old.holds records → new.holds (changed_all changes records)
+
 -- ---- what a stop at the end of a call leaves; one inside it is that of a device which fails from there on
 
 -- whoever opens it then finds records that they might have found before
@@ -73,6 +86,12 @@ pub record Leaves (old new : Stored) : Type 0 where
 pub record LeavesSaved (change : Change) (old new : Stored) : Type 0 where
   pub records : (left : Records) → new.may_hold left →
       old.may_hold left ⊎ ((records : Records) → old.holds records → AreSame left (changed change records))
+  pub started : LeavesStarted old new
+
+-- the save of a group may be done, too: of all of it, or of nothing
+pub record LeavesSavedAll (changes : List Change) (old new : Stored) : Type 0 where
+  pub records : (left : Records) → new.may_hold left →
+      old.may_hold left ⊎ ((records : Records) → old.holds records → AreSame left (changed_all changes records))
   pub started : LeavesStarted old new
 
 -- the next incarnation may have begun
@@ -102,3 +121,7 @@ stored_in list failures = record {
 -- what a list stores once a change is saved
 abbrev pub saved : Change → List (Slot × SlotRecord) → Records
 saved change entries = changed change (record_at entries)
+
+-- and once a group is
+abbrev pub saved_all : List Change → List (Slot × SlotRecord) → Records
+saved_all changes entries = changed_all changes (record_at entries)

@@ -1,8 +1,9 @@
 //! A store that holds a save up, for tests.
 
-ghost use Rattle.std.specs.Prelude.{◌≡◌, ◌≢◌, ◌+◌, ◌-◌, ◌^◌, ℕ, min, IfErr, IsErrOf, OnOk};
+ghost use Rattle.std.specs.Prelude.{◌≡◌, ◌≢◌, ◌+◌, ◌-◌, ◌^◌, ℕ, [], min, IfErr, IsErrOf, Ok, OnOk};
 
 use crate::fault::StoreFault;
+use crate::group::GroupStore;
 use crate::list::ListStore;
 use crate::store::StableStore;
 use mc_types::Incarnation;
@@ -18,7 +19,7 @@ pub trait Hold {
         ensures { held self.new ≡ min (held self.old + 1) (2 ^ 64 - 1) };
 }
 
-/// A store of which one save is held up.
+/// A store of which one save is held up. A group is one save; one of no changes is none.
 #[derive(Drop)]
 pub struct HoldingStore<H: Hold> {
     store: ListStore,
@@ -38,6 +39,19 @@ impl<H: Hold> HoldingStore<H> {
             holds_in: save,
             hold,
         }
+    }
+
+    /// Begins a save: it is held up, or there is one less till that.
+    fn begin_save(&mut self)
+        ensures store { self.new.store ≡ self.old.store }
+        ensures holds { self.old.holds_in ≡ 1 → H.held self.new.hold ≡ min (H.held self.old.hold + 1) (2 ^ 64 - 1) }
+        ensures holds_alone { self.old.holds_in ≢ 1 → self.new.hold ≡ self.old.hold }
+        ensures counts { self.new.holds_in ≡ self.old.holds_in - 1 }
+    {
+        if self.holds_in == 1 {
+            self.hold.hold();
+        }
+        self.holds_in = self.holds_in.saturating_sub(1);
     }
 }
 
@@ -72,10 +86,7 @@ impl<H: Hold> StableStore for HoldingStore<H> {
         ensures holds_alone { self.old.holds_in ≢ 1 → self.new.hold ≡ self.old.hold }
         ensures counts { self.new.holds_in ≡ self.old.holds_in - 1 }
     {
-        if self.holds_in == 1 {
-            self.hold.hold();
-        }
-        self.holds_in = self.holds_in.saturating_sub(1);
+        self.begin_save();
         self.store.save(change)
     }
 
@@ -85,5 +96,30 @@ impl<H: Hold> StableStore for HoldingStore<H> {
 
     fn failures(&self) -> u64 {
         0
+    }
+}
+
+impl<H: Hold> GroupStore for HoldingStore<H> {
+    ghost use Rattle.stable_store.specs.Stored.{GoesOn, KeepsStarted, LeavesSavedAll, SavesAll, Stays, stored_in};
+    ghost use Rattle.stable_store.specs.declared.fault.StoreFault.TheVariants.{Memory};
+
+    /// The save of its number, counted from 1, is held up, and no other.
+    fn save_all(&mut self, changes: &[Change]) -> Result<(), StoreFault>
+        ensures none { changes.now ≡ [] → (result ≡ Ok tt) × (self.new ≡ self.old) }
+        ensures ok { OnOk result (SavesAll changes.now (stored_in self.old.store 0) (stored_in self.new.store 0)) }
+        ensures kept { OnOk result (KeepsStarted (stored_in self.old.store 0) (stored_in self.new.store 0)) }
+        ensures memory { IsErrOf result Memory → Stays (stored_in self.old.store 0) (stored_in self.new.store 0) }
+        ensures stop { LeavesSavedAll changes.now (stored_in self.old.store 0) (stored_in self.new.store 0) }
+        ensures goes_on { GoesOn (stored_in self.old.store 0) (stored_in self.new.store 0) }
+        ensures faults { IfErr result (λ fault. fault ≡ Memory) }
+        ensures holds { changes.now ≢ [] → self.old.holds_in ≡ 1 → H.held self.new.hold ≡ min (H.held self.old.hold + 1) (2 ^ 64 - 1) }
+        ensures holds_alone { self.old.holds_in ≢ 1 → self.new.hold ≡ self.old.hold }
+        ensures counts { changes.now ≢ [] → self.new.holds_in ≡ self.old.holds_in - 1 }
+    {
+        if changes.is_empty() {
+            return Ok(());
+        }
+        self.begin_save();
+        self.store.save_all(changes)
     }
 }

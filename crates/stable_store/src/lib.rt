@@ -3,6 +3,7 @@
 
 mod failing;
 mod fault;
+mod group;
 mod holding;
 mod latch;
 mod laws;
@@ -11,8 +12,9 @@ mod store;
 
 pub use failing::{FailingStore, Found};
 pub use fault::StoreFault;
+pub use group::GroupStore;
 pub use holding::{Hold, HoldingStore};
 pub use latch::{Latch, LatchHold};
-pub use laws::a_list_is_exact;
+pub use laws::{a_group_of_one_is_a_save, a_list_is_exact};
 pub use list::ListStore;
 pub use store::StableStore;

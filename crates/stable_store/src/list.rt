@@ -2,8 +2,10 @@
 
 ghost use Rattle.std.specs.Prelude.{◌≡◌, [], reverse, IfOk};
 ghost use Rattle.synod_acceptor.specs.Records.{entries_of, record_at};
+ghost use Rattle.stable_store.specs.Stored.{afters};
 
 use crate::fault::StoreFault;
+use crate::group::GroupStore;
 use crate::store::StableStore;
 use mc_types::Incarnation;
 use std::alloc::{AllocError, Global};
@@ -98,6 +100,29 @@ impl StableStore for ListStore {
     fn failures(&self) -> u64 {
         0
     }
+}
+
+impl GroupStore for ListStore {
+    /// All memory that a group takes is there before anything is changed.
+    fn save_all(&mut self, changes: &[Change]) -> Result<(), StoreFault> {
+        if changes.is_empty() {
+            return Ok(());
+        }
+        let mut records = records_of(*self.saved.allocator(), changes)?;
+        self.saved.append(&mut records)?;
+        Ok(())
+    }
+}
+
+/// Copies of the records of changes, in their order.
+fn records_of(alloc: Global, changes: &[Change]) -> Result<Vec<Record>, AllocError>
+    ensures { IfOk result (λ records. records.items ≡ afters changes.now) }
+{
+    let mut records = Vec::with_capacity(alloc, changes.len())?;
+    for change in changes {
+        records.push(change.after.copy()?)?;
+    }
+    Ok(records)
 }
 
 /// Copies of records, in the reverse order.
