@@ -1,1 +1,4 @@
 pub mod Inboxes
+pub mod Lines
+pub mod Names
+pub mod StaffedPlaces

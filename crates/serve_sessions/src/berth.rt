@@ -1,21 +1,15 @@
 //! A worker's place on a connection, under its lock.
 
-use connection_parts::{Job, Place};
+use crate::staffed_place::StaffedPlace;
+use connection_parts::Job;
 use esme_service::HeardPdu;
 use std::sync::atomic::{AtomicBool, Ordering};
 use std::sync::{Condvar, Mutex, Wait};
 
-/// A place, and whether its worker is there: a delivery that nobody takes would be under way for ever.
-#[derive(Drop)]
-struct Held {
-    place: Place,
-    has_worker: bool,
-}
-
 /// A worker's place on a connection, under its lock: who has a delivery gives it there, and who reads what the ESME answers tells it there.
 #[derive(Drop)]
 pub struct Berth {
-    held: Mutex<Held>,
+    held: Mutex<StaffedPlace>,
     changed: Condvar,
 }
 
@@ -23,29 +17,25 @@ impl Berth {
     /// A place whose worker is not there yet.
     pub(crate) fn free() -> Berth {
         Berth {
-            held: Mutex::new(Held {
-                place: Place::free(),
-                has_worker: false,
-            }),
+            held: Mutex::new(StaffedPlace::free()),
             changed: Condvar::new(),
         }
     }
 
     /// The worker of the place is there: it takes what is given, until it asks for a delivery and there is none.
     pub fn start<R: Wait>(&self, rt: &R) {
-        self.held.lock(rt).has_worker = true;
+        self.held.lock(rt).staff();
     }
 
     /// Whether a delivery can be given to the worker of the place.
     pub(crate) fn is_free<R: Wait>(&self, rt: &R) -> bool {
-        let held = self.held.lock(rt);
-        held.has_worker && held.place.is_free()
+        self.held.lock(rt).is_free()
     }
 
     /// Gives a delivery to the worker of the place, if it is there and free; whether it is given.
     pub(crate) fn give<R: Wait>(&self, rt: &R, job: Job) -> bool {
         let mut held = self.held.lock(rt);
-        let is_given = held.has_worker && held.place.give(job);
+        let is_given = held.give(job);
         drop(held);
         if is_given {
             self.changed.notify_all();
@@ -59,9 +49,7 @@ impl Berth {
         let mut held = self.changed.wait_while(rt, held, |held| {
             held.place.is_idle() && !rests.load(Ordering::SeqCst)
         });
-        let job = held.place.take();
-        held.has_worker = job.is_some();
-        job
+        held.take()
     }
 
     /// Who waits looks again whether it has to.

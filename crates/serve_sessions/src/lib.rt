@@ -8,10 +8,12 @@ mod connection;
 mod entrance;
 mod gate;
 mod inbox;
+mod lines;
 mod log;
 mod notice;
 mod reading;
 mod signal;
+mod staffed_place;
 
 pub use arrival::Arrival;
 pub use berth::Berth;

@@ -1,9 +1,9 @@
 //! The lines that an operator reads.
 
 use crate::clock::milliseconds;
+use crate::lines::{Lines, Told};
 use connection_parts::stamp_at;
 use std::alloc::Global;
-use std::collections::VecDeque;
 use std::fmt;
 use std::rt::Clock;
 use std::sync::{Condvar, Mutex, Wait};
@@ -39,59 +39,13 @@ pub struct Log {
     changed: Condvar,
 }
 
-/// The lines that wait to be written, the oldest first; how many were not told, since too many waited or there was no memory; and whether none comes any more.
-#[derive(Drop)]
-struct Lines {
-    waiting: VecDeque<String>,
-    lost: u64,
-    is_shut: bool,
-}
-
-/// What comes next for who writes lines.
-#[derive(Drop)]
-enum Told {
-    Line(String),
-    /// So many lines were lost.
-    Lost(u64),
-    /// Nothing, now and later.
-    End,
-}
-
-impl Lines {
-    /// Whether who writes has to wait.
-    fn is_idle(&self) -> bool {
-        self.waiting.is_empty() && self.lost == 0 && !self.is_shut
-    }
-
-    /// Puts a line behind the others. It is lost if so many wait, or if there is no memory.
-    fn put(&mut self, line: String, most: usize) {
-        if self.waiting.len() >= most {
-            drop(line);
-            self.lose();
-            return;
-        }
-        if self.waiting.push_back(line).is_err() {
-            self.lose();
-        }
-    }
-
-    /// Another line is lost.
-    fn lose(&mut self) {
-        self.lost = self.lost.saturating_add(1);
-    }
-}
-
 impl Log {
     /// Nothing waits.
     pub fn make(alloc: Global, is_quiet: bool) -> Log {
         Log {
             alloc,
             is_quiet,
-            lines: Mutex::new(Lines {
-                waiting: VecDeque::new(alloc),
-                lost: 0,
-                is_shut: false,
-            }),
+            lines: Mutex::new(Lines::none(alloc)),
             changed: Condvar::new(),
         }
     }
@@ -141,20 +95,12 @@ impl Log {
     fn next<R: Wait>(&self, rt: &R) -> Told {
         let lines = self.lines.lock(rt);
         let mut lines = self.changed.wait_while(rt, lines, |lines| lines.is_idle());
-        let lost = lines.lost;
-        lines.lost = 0;
-        if lost > 0 {
-            return Told::Lost(lost);
-        }
-        match lines.waiting.pop_front() {
-            Some(line) => Told::Line(line),
-            None => Told::End,
-        }
+        lines.next()
     }
 
     /// No line comes any more.
     pub fn shut<R: Wait>(&self, rt: &R) {
-        self.lines.lock(rt).is_shut = true;
+        self.lines.lock(rt).shut();
         self.changed.notify_all();
     }
 }

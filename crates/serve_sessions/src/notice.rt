@@ -1,5 +1,9 @@
 //! What an operator is told, a line each.
 
+ghost use Rattle.std.specs.Prelude.{◌≡◌, ◌⊎◌, ◌↔◌, IsTrue};
+ghost use Rattle.serve_sessions.specs.Names.{shown};
+ghost use Rattle.sessions.specs.declared.requested.Requested.TheVariants.{BindReceiver, BindTransceiver, BindTransmitter};
+
 use pdu_tables::Status;
 use sessions::{Requested, SessionState};
 use std::fmt;
@@ -70,7 +74,9 @@ fn name_of(requested: Requested) -> &'static str {
 }
 
 /// Whether it is a bind.
-pub fn is_bind(requested: Requested) -> bool {
+pub fn is_bind(requested: Requested) -> bool
+    ensures { IsTrue result ↔ (requested ≡ BindReceiver) ⊎ (requested ≡ BindTransmitter) ⊎ (requested ≡ BindTransceiver) }
+{
     matches!(
         requested,
         Requested::BindReceiver | Requested::BindTransmitter | Requested::BindTransceiver
@@ -214,7 +220,9 @@ impl fmt::Display for VisibleText<'_> {
 }
 
 /// An octet as a character: `.` if it is no visible ASCII.
-fn visible(octet: u8) -> char {
+fn visible(octet: u8) -> char
+    ensures { result ≡ shown octet }
+{
     if octet.is_ascii_graphic() {
         char::from(octet)
     } else {
