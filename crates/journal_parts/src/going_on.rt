@@ -49,8 +49,28 @@ impl<S: StableStore> Journal<S> {
     pub fn into_posts(self) -> Vec<Post<S>>
         ensures { map posted result.items ≡ self.posts }
     {
-        self.posts
+        let (posts, past) = self.split();
+        drop(past);
+        posts
     }
+
+    /// The nodes as they are, node 1 first, and what is left of the journal without them. It takes no memory.
+    pub fn split(self) -> (Vec<Post<S>>, Past)
+        ensures { map posted result.0.items ≡ self.posts }
+    {
+        let past = Past {
+            noted: self.noted,
+            carried: self.carried,
+        };
+        (self.posts, past)
+    }
+}
+
+/// What is left of the journal of a part whose nodes have gone on: to let it go takes a while for each of its entries, so another thread may.
+#[derive(Drop)]
+pub struct Past {
+    noted: Vec<Noted>,
+    carried: Vec<Carried>,
 }
 
 impl<L: Begins> Register<L> {

@@ -29,7 +29,7 @@ pub use claim::Claim;
 pub use copies::EntryCopies;
 pub use done::Done;
 pub use entry::{Entry, Unfinished};
-pub use going_on::{all_parts_are_one, closed_journals_go_on};
+pub use going_on::{Past, all_parts_are_one, closed_journals_go_on};
 pub use journal::Journal;
 pub use member::Member;
 pub use node_entry::{MayBegin, MessageIds, Reach, Step};

@@ -8,7 +8,7 @@ ghost use Rattle.journal_parts.specs.Numbers.{all_from};
 ghost use Rattle.node_threads.specs.Actions.{AllGoOn};
 
 use crate::cluster::{Cluster, Rooms};
-use journal_parts::{Begins, Journal, Member, Post, Register};
+use journal_parts::{Begins, Journal, Member, Past, Post, Register};
 use stable_store::StableStore;
 use std::alloc::{AllocError, Global};
 use std::collections::VecDeque;
@@ -30,8 +30,32 @@ impl<S: StableStore + Drop, L: Begins> Cluster<S, L> {
         requires goes { GoesOn S.stored L.cluster L.kept L.numbers journal }
         ensures { IfErr result (λ back. back ≡ journal) }
     {
+        match Cluster::go_on_apart(alloc, blank, journal, from) {
+            Ok((cluster, past)) => {
+                drop(past);
+                Ok(cluster)
+            }
+            Err(journal) => Err(journal),
+        }
+    }
+
+    /// The same, and what is left of the part that was closed, which another thread may let go: that takes a while for each of its entries.
+    pub fn go_on_apart(
+        alloc: Global,
+        blank: Blank,
+        journal: Journal<S>,
+        from: u64,
+    ) -> Result<(Cluster<S, L>, Past), Journal<S>>
+        requires name { blank.name ≡ L.name }
+        requires parts { (blank.parts ≡ L.parts) × (blank.parts ≡ 1000000) }
+        requires goes { GoesOn S.stored L.cluster L.kept L.numbers journal }
+        ensures { IfErr result (λ back. back ≡ journal) }
+    {
         match Empty::make(alloc, blank, &journal, from) {
-            Ok(empty) => Ok(empty.filled(journal.into_posts())),
+            Ok(empty) => {
+                let (posts, past) = journal.split();
+                Ok((empty.filled(posts), past))
+            }
             Err(AllocError) => Err(journal),
         }
     }

@@ -21,8 +21,8 @@ pub use closing::{SeatsFault, SeatsOut};
 pub use cluster::Cluster;
 pub use defaults::Defaults;
 pub use journal_parts::{
-    Begins, Done, Entry, Journal, MOST_SEATS, MayBegin, MessageIds, Packet, Reach, Refusal, Seat,
-    Slip, Unfinished, all_parts_are_one, closed_journals_go_on,
+    Begins, Done, Entry, Journal, MOST_SEATS, MayBegin, MessageIds, Packet, Past, Reach, Refusal,
+    Seat, Slip, Unfinished, all_parts_are_one, closed_journals_go_on,
 };
 pub use loading::{begin_nodes, load_nodes};
 pub use node_core::{Life, Loaded, Node, Outputs, Permit};
