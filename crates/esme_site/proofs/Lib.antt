@@ -2,3 +2,4 @@ pub mod Settling
 pub mod Replies
 pub mod Receipts
 pub mod GivenOut
+pub mod Askers

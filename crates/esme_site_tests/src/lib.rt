@@ -2,7 +2,11 @@
 #![tactic(auto)]
 
 #[cfg(test)]
+mod asks;
+#[cfg(test)]
 mod calls;
+#[cfg(test)]
+mod counted;
 #[cfg(test)]
 mod double;
 #[cfg(test)]

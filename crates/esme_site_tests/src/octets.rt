@@ -3,12 +3,18 @@
 /// A bind_transceiver of sme1 with the password pw1 and the version 0x34.
 pub const BIND: &[u8] = b"\0\0\0\x1e\0\0\0\x09\0\0\0\0\0\0\0\x01sme1\0pw1\0\0\x34\0\0\0";
 
+/// The same of sme2 with the password pw2.
+pub const BIND_SME2: &[u8] = b"\0\0\0\x1e\0\0\0\x09\0\0\0\0\0\0\0\x01sme2\0pw2\0\0\x34\0\0\0";
+
 /// A submit_sm from 144 to 155 with the text Hi.
 pub const SUBMIT: &[u8] = b"\0\0\0\x29\0\0\0\x04\0\0\0\0\0\0\0\x02\
 \0\x01\x01144\0\x01\x01155\0\0\0\0\0\0\0\0\0\0\x02Hi";
 
 /// Its response, once the message 1000100001 is taken.
 pub const SUBMIT_ANSWER: &[u8] = b"\0\0\0\x1b\x80\0\0\x04\0\0\0\0\0\0\0\x021000100001\0";
+
+/// The response that refuses it since the queue is full, 0x14.
+pub const SUBMIT_REFUSED: &[u8] = b"\0\0\0\x10\x80\0\0\x04\0\0\0\x14\0\0\0\x02";
 
 /// The deliver_sm of the receipt of the message, with the sequence_number 1.
 pub const RECEIPT: &[u8] = b"\0\0\0\xa3\0\0\0\x05\0\0\0\0\0\0\0\x01\

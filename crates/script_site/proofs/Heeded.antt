@@ -17,8 +17,6 @@ use Rattle.sessions.specs.Session.{Session}
 use Rattle.sessions.specs.declared.response.Outgoing.{Outgoing}
 use Rattle.sessions.specs.declared.pushed.Pushed.{Pushed}
 use Rattle.world.specs.Scenes.{Scene}
-use Rattle.world.specs.declared.given.Given.{Given}
-use Rattle.world.specs.Step.TheVariants as steps
 use Rattle.esme_service.specs.Service.{Service}
 use Rattle.esme_service.specs.Sessions.{account_at, waits_at}
 use Rattle.esme_service.specs.declared.heard.Asked.{Asked}
@@ -27,10 +25,14 @@ use Rattle.esme_service.specs.declared.heard.Heard.TheVariants as heards
 use Rattle.script_text.specs.Attempts.{Went, all_given_up, delivered_so}
 use Rattle.script_text.specs.Node.{Node, request_at, step_at}
 use Rattle.script_text.specs.Prints.{Print, gone_line, pdu_line, text_at}
-use Rattle.script_text.specs.Runner.{Runner, refusal_prints}
+use Rattle.script_text.specs.Runner.{Acted, Runner, refusal_prints}
 use Rattle.script_text.specs.Settings.{Settings}
 use Rattle.script_text.specs.World.{World}
-use Rattle.script_site.specs.Asking.{HasAsked, IsAskedSo, refusal_of}
+use Rattle.esme_site.specs.Asking.{HasAsked, refusal_of}
+use Rattle.esme_site.specs.declared.asking.Asking.{Asking}
+use Rattle.esme_site.specs.declared.steps.Taken.{Taken}
+use Rattle.script_site.specs.Asking.{TakesRequest}
+use Rattle.script_site.specs.declared.steps.Home.{Home}
 use Rattle.script_site.specs.Heeding.{asked_by, asks_if, heeded}
 use Rattle.script_site.specs.Sites.{Acts, Goes, IsRunning, Placed, Takes}
 use Rattle.script_site.proofs.Acting.{nothing_acts}
@@ -38,20 +40,44 @@ use Rattle.script_site.proofs.Stepping.{request_goes}
 
 -- ---- a request
 
+-- what this leaves, and that it prints the refusal with a status, if there is one
+pub record IsAskedSo (home : ℕ) (w : World) (acted : Acted) (number : ℕ) (asked : Asked) (refusal : Option Outgoing) (new : Placed) : Type 0 where
+  pub running : IsRunning home new w acted.next
+  pub status : Option Status
+  pub refused : refusal ≡ option_map (refusal_of asked) status
+  pub prints : acted.prints ≡ refusal_prints number asked.requested asked.sequence (option_map status_code status)
+
+-- as whatever runner they were
+abbrev pub AsksSo : ℕ → ℕ → Asked → Request → Placed → Placed → Option Outgoing → Type 0
+AsksSo home number asked request old new refusal =
+    (w : World) (runner : Runner) → IsRunning home old w runner
+    → IsAskedSo home w (asks_if number runner asked request (account_at runner.sessions number)) number asked refusal new
+
+-- a request is handed to this node of a world
+abbrev pub takes_at : Scene → Home → List ℕ → Request → Taken → Scene → Type 0
+takes_at before at account request taken after = TakesRequest before at.node account request taken after
+
 -- it was handed to the node, and waits, or is refused
-pub asked_so : (at : Placed) (new : Scene) (left : Service) (number : ℕ) (asked : Asked) (request : Request) (account : List ℕ) (given : Given)
-    (refusal : Option Outgoing) → Some account ≡ account_at at.site.service.sessions number → Takes at.world (steps.Request at.site.node account request) given new
-    → left ≡ record at.site.service { sessions = waits_at at.site.service.sessions number asked.requested asked.sequence given.ticket }
-    → refusal ≡ option_map (refusal_of asked) given.refused
-    → HasAsked at.site.node number asked request at (record { world = new; site = record at.site { service = left } }) refusal
-asked_so at new left number asked request account given refusal bound takes waits is w runner running =
+pub asked_so : (at : Placed) (new : Scene) (left : Service) (asking : Asking) (refusal : Option Outgoing)
+    → HasAsked takes_at (record { node = at.site.node }) asking at.site.service at.world left new refusal
+    → AsksSo at.site.node asking.number asking.asked asking.request at (record { world = new; site = record at.site { service = left } }) refusal
+asked_so at new left asking refusal has w runner running =
+    let number = asking.number in
+    let asked = asking.asked in
+    let request = asking.request in
+    let account = has.account in
+    let given = has.took_it.given in
     let home = at.site.node in
-    let went = request_goes home at.world w runner.node running.going account request given new takes in
+    let went = request_goes home at.world w runner.node running.going account request given new has.took_it.takes in
     let step = step_at runner.node (request_at runner.node account request) in
     let ticket = ap (λ (o : Outputs). o.ticket) went.1.others in
     let refused = ap (λ (o : Outputs). o.refused) went.1.others in
     let accounts : Some account ≡ account_at runner.sessions number =
-    bound ∙ ap (λ (sessions : List (ℕ × Session)). account_at sessions number) running.sessions in
+    sym has.its ∙ ap (λ (sessions : List (ℕ × Session)). account_at sessions number) running.sessions in
+    let waits : left ≡ record at.site.service { sessions = waits_at at.site.service.sessions number asked.requested asked.sequence given.ticket } =
+    has.waits ∙ ap (λ (taken : Taken). record at.site.service {
+      sessions = waits_at at.site.service.sessions number asked.requested asked.sequence taken.ticket;
+    }) has.took_it.is in
     let so : IsAskedSo home w (asked_by number runner asked (request_at runner.node account request) step) number asked refusal
     (record { world = new; site = record at.site { service = left } }) = record {
       running = record {
@@ -63,7 +89,7 @@ asked_so at new left number asked request account given refusal bound takes wait
         waiting = ap (λ (s : Service). s.waiting) waits ∙ running.waiting;
       };
       status = given.refused;
-      refused = is;
+      refused = has.refuses ∙ ap (λ (taken : Taken). option_map (refusal_of asked) taken.refused) has.took_it.is;
       prints = ap (refusal_prints number asked.requested asked.sequence) (sym refused);
     } in
     subst (λ (found : Option (List ℕ)). IsAskedSo home w (asks_if number runner asked request found) number asked refusal
@@ -93,7 +119,7 @@ module _ (settings : Settings) (number : ℕ) (at : Placed) where
   -- a request that is refused, and one that is not
   pub refused_heeded : (r : Result (Unit {0}) AllocError) (heard : Heard) (asked : Asked) (request : Request) (new : Placed)
       (outgoing : Outgoing) (before after : List ℕ) → heard ≡ heards.Request asked request
-      → HasAsked home number asked request at new (Some outgoing)
+      → AsksSo home number asked request at new (Some outgoing)
       → OnOk r (after ≡ before ++ pdu_line new.site.node number (pdu_of settings.system_id outgoing)) → OnOk r (Heeds heard new before after)
   refused_heeded (Err fault) heard asked request new outgoing before after is has wrote = tt
   refused_heeded (Ok done) heard asked request new outgoing before after is has wrote =
@@ -118,7 +144,7 @@ module _ (settings : Settings) (number : ℕ) (at : Placed) where
           ∙ ap (λ (t : List ℕ). before ++ t) (sym (append-nil (pdu_line home number (pdu_of settings.system_id (refusal_of asked status)))))
 
   pub waiting_heeded : (heard : Heard) (asked : Asked) (request : Request) (new : Placed) (text : List ℕ) → heard ≡ heards.Request asked request
-      → HasAsked home number asked request at new None → Heeds heard new text text
+      → AsksSo home number asked request at new None → Heeds heard new text text
   waiting_heeded heard asked request new text is has =
       subst (λ (h : Heard). Heeds h new text text) (sym is)
       (λ w runner running.

@@ -6,7 +6,6 @@ pub mod Stepping
 pub mod Refusing
 pub mod Concluding
 pub mod Acting
-pub mod Askers
 pub mod Heeded
 pub mod Heeding
 pub mod Sending

@@ -27,7 +27,7 @@ use Rattle.esme_service.specs.Sessions.{account_at, account_of, in_window, kept_
 use Rattle.esme_service.specs.declared.heard.Heard.{Heard}
 use Rattle.esme_service.proofs.Entries.{set_put}
 use Rattle.esme_service.proofs.Frames.{left_open}
-use Rattle.node_model.proofs.Places.{here}
+use Rattle.esme_site.proofs.Askers.{IsLike, account_so, found_put, itself_like, put_so}
 use Rattle.script_text.specs.Left.{followed_by, rests}
 use Rattle.script_text.specs.Settings.{Settings}
 use Rattle.script_text.specs.Node.{Node, request_at, step_at, with_step}
@@ -76,14 +76,6 @@ window_so : (session : Session) (requested : Requested) (sequence : ℕ) (ticket
     → is_gone (in_window session requested sequence ticket).state ≡ is_gone session.state
 window_so session requested sequence None = refl
 window_so session requested sequence (Some ticket) = waits_so session (record { ticket = ticket; requested = requested; sequence = sequence })
-
-put_so : (sessions : List (ℕ × Session)) (number : ℕ) (session : Session) → is_gone session.state ≡ false
-    → kept_at sessions number session ≡ put_at sessions number session
-put_so sessions number session stays =
-    ap (λ (gone : Bool). cond gone (remove_entry (is_at (nat_cmp number)) sessions) (put_at sessions number session)) stays
-
-found_put : (sessions : List (ℕ × Session)) (number : ℕ) (session : Session) → session_at (put_at sessions number session) number ≡ Some session
-found_put sessions number session = here number session (remove_entry (is_at (nat_cmp number)) sessions)
 
 module _ (settings : Settings) (number : ℕ) (old : Runner) (session : Session) where
   -- the node takes the step of a request, which waits on its session
@@ -168,13 +160,6 @@ module _ (settings : Settings) (number : ℕ) (old : Runner) (session : Session)
 
 -- ---- the session that is left
 
-pub record IsLike (one other : Session) : Type 0 where
-  pub gone : is_gone one.state ≡ is_gone other.state
-  pub account : one.account ≡ other.account
-
-pub itself_like : (session : Session) → IsLike session session
-itself_like session = record { gone = refl; account = refl }
-
 window_account : (session : Session) (requested : Requested) (sequence : ℕ) (ticket : Option ℕ)
     → (in_window session requested sequence ticket).account ≡ session.account
 window_account session requested sequence None = refl
@@ -201,22 +186,6 @@ left_like settings number node came session (Respond outgoing) = itself_like ses
 left_like settings number node came session (Leave outgoing abandoned) = itself_like session
 left_like settings number node came session (Ask requested) = request_like number node session requested came.sequence session.account came.request
 left_like settings number node came session (Answered pushed) = itself_like session
-
--- its account is that of the session of this number, if one is connected still
-pub account_so : (sessions : List (ℕ × Session)) (number : ℕ) (served session : Session) → IsLike served session
-    → GoesIf (kept_at sessions number session) number (Some session)
-    → account_at (kept_at sessions number served) number ≡ served.account
-account_so sessions number served session like goes = by_gone (is_gone served.state) refl
-  where
-    by_gone : (gone : Bool) → is_gone served.state ≡ gone → account_at (kept_at sessions number served) number ≡ served.account
-    by_gone false is =
-        ap (λ (left : List (ℕ × Session)). account_at left number) (put_so sessions number served is) ∙ ap account_of (found_put sessions number served)
-    by_gone true is =
-        let goes_so = goes (sym like.gone ∙ is) in
-        let removed : kept_at sessions number served ≡ kept_at sessions number session =
-        ap (λ (gone : Bool). cond gone (remove_entry (is_at (nat_cmp number)) sessions) (put_at sessions number served)) is
-        ∙ sym (ap (λ (gone : Bool). cond gone (remove_entry (is_at (nat_cmp number)) sessions) (put_at sessions number session)) (sym like.gone ∙ is)) in
-        ap (λ (left : List (ℕ × Session)). account_at left number) removed ∙ ap account_of goes_so.1 ∙ sym (like.account ∙ goes_so.0)
 
 serves_so : (old : Runner) (number : ℕ) (served : Served) (acted : Acted) → served_at old number served ≡ acted
     → account_at (kept_at old.sessions number served.next.session) number ≡ served.next.session.account → serves old number served ≡ then_posts number acted

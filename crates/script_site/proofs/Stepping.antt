@@ -34,7 +34,7 @@ use Rattle.script_text.specs.Node.{Node, request_at, step_at, tick_at, with_step
 use Rattle.script_text.specs.Runner.{Runner}
 use Rattle.script_text.specs.Runs.{IsNodeOf}
 use Rattle.script_text.specs.World.{World}
-use Rattle.script_site.specs.Sites.{IsAmong, IsGoing, Takes}
+use Rattle.script_site.specs.Sites.{IsAmong, IsGoing, StandsStill, Takes}
 
 -- ---- what can be asked of a node that is up
 
@@ -86,6 +86,10 @@ module _ (cluster : Cluster) (inputs : List NodeInput) (scene : Scene) (at : IsA
           let there = ap (numbered new.members) (sym is) ∙ found.1 in
           let stands = stands_up kept found.0.up found.0 (after.members home found.0 there).stands in
           ap is_up there ∙ sym stands ∙ kept_up up
+
+-- a step that is refused is not taken
+pub stands_still : (old new : Scene) (step : Step) (fault : WorldFault) → Leads old step (Err fault) new → StandsStill old new
+stands_still old new step fault leads cluster behind inputs at = (leads.each cluster behind inputs at).at
 
 -- ---- a step that is taken
 

@@ -2,10 +2,8 @@
 use Rattle.std.specs.Prelude.{◌≡◌, ℕ, List, ◌++◌}
 use Rattle.esme_service.specs.Service.{Service}
 use Rattle.script_text.specs.Prints.{text_at}
-use Rattle.script_text.specs.Receipts.{Mail, Posted}
-
-abbrev pub mail_in : Service → Mail
-mail_in service = record { sessions = service.sessions; waiting = service.waiting }
+use Rattle.script_text.specs.Receipts.{Posted}
+pub use Rattle.esme_site.specs.Puts.{mail_in}
 
 -- Receipts went out at a node: they left this service, and added the text of what was printed.
 pub record IsPosted (node : ℕ) (posted : Posted) (left : Service) (before after : List ℕ) : Type 0 where

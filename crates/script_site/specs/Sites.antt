@@ -2,6 +2,7 @@
 use Rattle.std.specs.Prelude.{◌≡◌, ℕ, suc, true, List, [], ◌++◌, length, reverse, slice_get, Some, Ok}
 use Rattle.mc_model.specs.node.Outputs.{Receipt, Reply}
 use Rattle.mc_model.specs.cluster.Steps.{Cluster}
+use Rattle.mc_model.specs.synod.Packet.{Packet}
 use Rattle.node_laws.specs.Clusters.{NodeInput, kept_reached}
 use Rattle.world.specs.Runs.{IsAt, Leads, leaves_up}
 use Rattle.world.specs.Taking.{node_at}
@@ -39,6 +40,10 @@ pub record IsGoing (home : ℕ) (scene : Scene) (w : World) (node : Node) : Type
 pub record Takes (old : Scene) (step : Step) (given : Given) (new : Scene) : Type 0 where
   pub leads : Leads old step (Ok given) new
   pub up : is_up_in new (node_at step) ≡ leaves_up step
+
+-- The world took no step.
+abbrev pub StandsStill : Scene → Scene → Type 0
+StandsStill old new = (cluster : Cluster) (behind : List Packet) (inputs : List NodeInput) → IsAt cluster behind inputs old → IsAt cluster behind inputs new
 
 -- wherever its node stood, this came of attempts there
 abbrev pub Goes : ℕ → (Node → Went) → Scene → Scene → Type 0

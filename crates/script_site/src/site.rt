@@ -1,6 +1,6 @@
 //! What stands beside a node: the service of its ESMEs, and the streams of its sessions.
 
-ghost use Rattle.std.specs.Prelude.{◌≡◌, [], map, false, true, is_none, is_some, IfOk, OnOk};
+ghost use Rattle.std.specs.Prelude.{◌≡◌, [], map, false, true, is_none, IfOk, OnOk};
 ghost use Rattle.mc_model.specs.message.Chain.{taken_in};
 ghost use Rattle.mc_model.specs.synod.Packet.{slot_of};
 ghost use Rattle.delivery.specs.Deliveries.{EndsInAttempt};
@@ -8,13 +8,13 @@ ghost use Rattle.script_text.specs.Settings.{settings_of};
 
 use crate::output::{write_all_gone, write_gone, write_outgoing, write_sending, write_ungranted};
 use crate::session_place::SessionPlace;
-use crate::steps::{Granting, conclude, conclude_by, give_up, grant, take};
+use crate::steps::{Granting, Home, conclude, conclude_by, give_up, grant, take};
 use crate::streams::Streams;
 use crate::telling::{post_all, post_for, post_for_all, write_replies};
 use config::Config;
 use delivery::{Outcome, outcome_of};
-use desk::Request;
-use esme_service::{Asked, Heard, Sending, Service};
+use esme_service::{Heard, Sending, Service};
+use esme_site::{Asking, ask};
 use fate_chain::Chain;
 use mc_types::{Moment, MsgId, NodeNo, Slot};
 use pdu_frames::Framer;
@@ -34,7 +34,7 @@ pub struct Site {
 impl Site {
     ghost use Rattle.node_model.specs.Reported.{receipt_of};
     ghost use Rattle.waiting_requests.specs.Replying.{reply_given};
-    ghost use Rattle.script_site.specs.Asking.{HasAsked, HasAsker};
+    ghost use Rattle.esme_site.specs.Asking.{HasAsker};
     ghost use Rattle.script_site.specs.Heeding.{heeded};
     ghost use Rattle.script_site.specs.Sites.{Acts, tells};
     ghost use Rattle.script_site.specs.Standing.{HasGivenUp, HasLeft, HasOpened, IsEmpty};
@@ -151,11 +151,17 @@ impl Site {
                 write_outgoing(text, self.place(number), &config.system_id, outgoing)
             }
             Heard::Request(asked, request) => {
-                match self.ask(world, number, asked, request)? {
-                    Some(refusal) => {
+                let asking = Asking {
+                    number,
+                    asked,
+                    request,
+                };
+                match ask(&mut self.service, world, &Home { node: self.node }, asking) {
+                    Ok(Some(refusal)) => {
                         write_outgoing(text, self.place(number), &config.system_id, refusal)
                     }
-                    None => Ok(()),
+                    Ok(None) => Ok(()),
+                    Err(_) => Err(AllocError),
                 }
             }
             Heard::Answer(pushed, pdu) => {
@@ -178,52 +184,6 @@ impl Site {
         SessionPlace {
             node: self.node,
             number,
-        }
-    }
-
-    /// A request of a session that is bound goes to the node: it waits on its session, or this response refuses it.
-    fn ask(
-        &mut self,
-        world: &mut World,
-        number: u8,
-        asked: Asked,
-        request: Request,
-    ) -> Result<Option<Outgoing>, AllocError>
-        requires { is_some (account_at self.old.service.sessions number) ≡ true }
-        ensures { IfOk result (HasAsked self.old.node number asked request
-            (record { world = world.old; site = self.old }) (record { world = world.new; site = self.new })) }
-    {
-        let Some(account) = self.service.account(number) else {
-            unreachable!();
-        };
-        let account = account.copy()?;
-        let given = take(
-            world,
-            Step::Request {
-                node: self.node,
-                account,
-                request,
-            },
-        )?;
-        let Asked {
-            requested,
-            sequence,
-        } = asked;
-        self.service.wait(
-            number,
-            Asked {
-                requested,
-                sequence,
-            },
-            given.ticket,
-        );
-        match given.refused {
-            Some(status) => Ok(Some(Asked {
-                requested,
-                sequence,
-            }
-            .refusal(status))),
-            None => Ok(None),
         }
     }
 

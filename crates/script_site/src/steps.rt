@@ -1,14 +1,17 @@
 //! Steps of a node of a script in its world.
 
-ghost use Rattle.std.specs.Prelude.{◌≡◌, length, option_map, drop, IfOk, OnOk};
+ghost use Rattle.std.specs.Prelude.{◌≡◌, length, option_map, drop, IfOk, OnErr, OnOk};
 ghost use Rattle.delivery.specs.Kept.{outcome_kept};
 ghost use Rattle.script_text.specs.Attempts.{all_given_up, concluded, delivered_so};
-ghost use Rattle.script_site.specs.Sites.{Goes, Takes};
+ghost use Rattle.script_site.specs.Sites.{Goes, StandsStill, Takes};
 ghost use Rattle.script_site.specs.Grantings.{IsGranting};
 
 use delivery::Outcome;
+use desk::Request;
+use esme_site::{Steps, Taken};
 use fate_chain::Chain;
 use mc_types::{MsgId, NodeNo, Slot};
+use pdu_codec::SystemId;
 use sessions::{Delivery, Pushed};
 use std::alloc::AllocError;
 use world::{Given, Step, World, WorldFault};
@@ -24,11 +27,49 @@ pub enum Granting {
 
 /// Takes a step of a node that is up, which is not refused then. An `Err` is want of memory.
 pub(crate) fn take(world: &mut World, step: Step) -> Result<Given, AllocError>
-    ensures { IfOk result (λ given. Takes world.old step given world.new) }
+    ensures taken { IfOk result (λ given. Takes world.old step given world.new) }
+    ensures err { OnErr result (StandsStill world.old world.new) }
 {
     match world.step(step) {
         Ok(given) => Ok(given),
         Err(_) => Err(AllocError),
+    }
+}
+
+/// A node of a world.
+#[derive(Clone, Copy)]
+pub(crate) struct Home {
+    pub(crate) node: NodeNo,
+}
+
+impl Steps<Home> for World {
+    ghost use Rattle.script_site.specs.Asking.{TakesRequest};
+
+    type Fault = AllocError;
+
+    ghost took = { λ before home account request taken after. TakesRequest before home.node account request taken after };
+
+    ghost refused = { λ before fault after. StandsStill before after };
+
+    /// The node is to be up.
+    fn request(
+        &mut self,
+        home: &Home,
+        account: SystemId,
+        request: Request,
+    ) -> Result<Taken, AllocError> {
+        let given = take(
+            self,
+            Step::Request {
+                node: home.node,
+                account,
+                request,
+            },
+        )?;
+        Ok(Taken {
+            ticket: given.ticket,
+            refused: given.refused,
+        })
     }
 }
 

@@ -1,2 +1,3 @@
 mod Crossing
 mod Begun
+mod Handing

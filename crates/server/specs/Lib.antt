@@ -1,3 +1,4 @@
+pub mod Handing
 pub use Rattle.node_workers.specs.Actions
 pub use Rattle.node_workers.specs.Defaults
 pub use Rattle.node_workers.specs.Loadings

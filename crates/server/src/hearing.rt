@@ -1,10 +1,15 @@
 //! What comes of a PDU of an ESME.
 
-use crate::shift::{Shift, ring};
+ghost use Rattle.std.specs.Prelude.{◌≡◌, false, IfOk};
+ghost use Rattle.esme_site.specs.Asking.{HasAsker};
+ghost use Rattle.server.specs.Handing.{HandsInRequest, Heeds, IsToldOf};
+
+use crate::asking::ask;
+use crate::shift::Shift;
 use crate::trouble::Trouble;
-use desk::Request;
-use esme_service::{Asked, Heard};
-use node_workers::{Action, Begins, Seat};
+use esme_service::Heard;
+use esme_site::Asking;
+use node_workers::{Begins, Seat};
 use pdu_tables::Status;
 use serve_nodes::Site;
 use serve_sessions::{Name, Notice, is_bind};
@@ -50,20 +55,15 @@ fn refused(requested: Requested, status: Status, frame: &[u8]) -> Notice {
     }
 }
 
-/// A request of a session.
-struct Asking {
-    number: u8,
-    asked: Asked,
-    request: Request,
-}
-
 /// The octets of a frame came on a session: they are served under the lock of its node's site, so that the reply to a request finds its session.
 pub(crate) fn heed<S: StableStore, L: Begins, R: Wait + Eprint + Clock>(
     shift: &Shift<'_, S, L, R>,
     seat: &mut Seat<L>,
     number: u8,
     frame: &[u8],
-) -> Result<Heeded, Trouble> {
+) -> Result<Heeded, Trouble>
+    ensures { HandsInRequest shift.now.station.now.node seat.old.slips seat.new.slips }
+{
     let mut guard = shift.station.site.lock(shift.rt);
     let site = &mut *guard;
     let heard = site
@@ -104,13 +104,17 @@ pub(crate) fn heed_wrong_length<S: StableStore, L: Begins, R: Wait + Eprint + Cl
     }
 }
 
+/// What was heard on a session goes to the node, or out.
 fn heed_heard<S: StableStore, L: Begins, R: Wait + Eprint + Clock>(
     shift: &Shift<'_, S, L, R>,
     site: &mut Site,
     seat: &mut Seat<L>,
     number: u8,
     heard: Heard,
-) -> Result<Heeded, Trouble> {
+) -> Result<Heeded, Trouble>
+    requires { HasAsker site.old.service.sessions number heard }
+    ensures { Heeds shift.now.station.now.node number heard site.old.service seat.old.slips site.new.service seat.new.slips result }
+{
     match heard {
         Heard::Nothing => Ok(told(None)),
         Heard::Response(outgoing) => Ok(told(respond(shift, site, number, outgoing)?)),
@@ -138,7 +142,9 @@ fn heed_heard<S: StableStore, L: Begins, R: Wait + Eprint + Clock>(
 }
 
 /// This is told, and the session goes on.
-fn told(notice: Option<Notice>) -> Heeded {
+fn told(notice: Option<Notice>) -> Heeded
+    ensures { result ≡ record { notice = notice; is_gone = false } }
+{
     Heeded {
         notice,
         is_gone: false,
@@ -146,12 +152,15 @@ fn told(notice: Option<Notice>) -> Heeded {
 }
 
 /// A response goes out; what the operator is told of it.
-fn respond<S: StableStore, L: Begins, R: Wait + Eprint + Clock>(
+pub(crate) fn respond<S: StableStore, L: Begins, R: Wait + Eprint + Clock>(
     shift: &Shift<'_, S, L, R>,
     site: &mut Site,
     number: u8,
     outgoing: Outgoing,
-) -> Result<Option<Notice>, AllocError> {
+) -> Result<Option<Notice>, AllocError>
+    ensures service { site.new.service ≡ site.old.service }
+    ensures told { IfOk result (IsToldOf outgoing.response) }
+{
     let system_id = &shift.shared.house.config.system_id;
     site.respond(shift.rt, system_id, number, outgoing)?;
     match outgoing.response {
@@ -170,67 +179,4 @@ fn bound(site: &Site, number: u8, version: u8) -> Option<Notice> {
     let session = site.service.sessions().get(&number)?;
     let account = session.account()?;
     Some(Notice::Bound(session.state(), Name::of(account.octets()), version))
-}
-
-/// A request goes to the node: it waits on its session, or is refused there.
-fn ask<S: StableStore, L: Begins, R: Wait + Eprint + Clock>(
-    shift: &Shift<'_, S, L, R>,
-    site: &mut Site,
-    seat: &mut Seat<L>,
-    asking: Asking,
-) -> Result<Option<Notice>, AllocError> {
-    let number = asking.number;
-    let asked = asking.asked;
-    let status = match handed_in(shift, site, seat, asking) {
-        Ok(status) => status,
-        Err(trouble) => {
-            shift.meet(trouble);
-            Some(Status::SystemError)
-        }
-    };
-    match status {
-        Some(status) => respond(shift, site, number, asked.refusal(status)),
-        None => Ok(None),
-    }
-}
-
-/// The status with which the node refuses a request; none if it waits.
-fn handed_in<S: StableStore, L: Begins, R: Wait + Eprint + Clock>(
-    shift: &Shift<'_, S, L, R>,
-    site: &mut Site,
-    seat: &mut Seat<L>,
-    asking: Asking,
-) -> Result<Option<Status>, Trouble> {
-    let Asking {
-        number,
-        asked,
-        request,
-    } = asking;
-    let Some(account) = site.service.account(number) else {
-        drop(request);
-        return Ok(None);
-    };
-    let account = match account.copy() {
-        Ok(account) => account,
-        Err(fault) => {
-            drop(request);
-            return Err(Trouble::from(fault));
-        }
-    };
-    let action = Action::Request {
-        node: shift.node(),
-        account,
-        request,
-    };
-    let slip = shift.shared.cluster.act(shift.rt, seat, action)?;
-    ring(shift.rt, &shift.shared.house, &slip);
-    let outputs = slip.outputs();
-    site.service.wait(number, asked, outputs.ticket);
-    if asked.requested == Requested::SubmitSm {
-        site.tally.submits = site.tally.submits.saturating_add(1);
-        if outputs.ticket.is_some() {
-            shift.station.count_serial();
-        }
-    }
-    Ok(outputs.refused)
 }

@@ -1,6 +1,7 @@
 //! The server of a centre: its nodes listen, read and write sessions, tick, carry packets and deliver, in threads.
 #![tactic(auto)]
 
+mod asking;
 mod attending;
 mod carrying;
 mod hearing;

@@ -9,7 +9,7 @@ use crate::seat_pool::SeatPool;
 use crate::serving::Served;
 use crate::shared::Shared;
 use crate::starting::start_nodes;
-use node_workers::{Begins, Cluster, Journal, MOST_SEATS, Seat, closed_journals_go_on};
+use node_workers::{Begins, Cluster, Journal, MOST_SEATS, Past, Seat, closed_journals_go_on};
 use serve_nodes::{Ending, House};
 use serve_sessions::{Mark, milliseconds, milliseconds_since};
 use stable_store::StableStore;
@@ -35,7 +35,7 @@ pub(crate) fn serve_parts<
 >(rt: &R, house: &Arc<House>, cluster: Cluster<S, L>) -> Served<S>
     ensures { IfSome result.journal (λ journal. (parts : ℕ) × ClosesParts S.stored L.cluster L.kept L.numbers parts journal) }
 {
-    let mut last = part(rt, house, cluster);
+    let mut last = part(rt, house, cluster, None);
     for _ in rt.forever() {
         let Some(journal) = last else {
             break;
@@ -89,10 +89,10 @@ fn next_part<
 {
     let Next { blank, journal } = next;
     let from = house.first_left();
-    match Cluster::<S, L>::go_on(house.alloc, blank, journal, from) {
-        Ok(cluster) => {
+    match Cluster::<S, L>::go_on_apart(house.alloc, blank, journal, from) {
+        Ok((cluster, past)) => {
             house.tell_part(rt, milliseconds(rt));
-            part(rt, house, cluster)
+            part(rt, house, cluster, Some(past))
         }
         Err(journal) => {
             drop(journal);
@@ -102,16 +102,17 @@ fn next_part<
     }
 }
 
-/// The journal of a part, behind all that its threads did. None if it can't be closed.
+/// The journal of a part, behind all that its threads did, while one of them lets the part before go. None if it can't be closed.
 fn part<
     S: StableStore + Send + Sync + Drop,
     L: Begins + Send + Sync,
     R: Threads + Wait + Eprint + Clock + Sync,
->(rt: &R, house: &Arc<House>, cluster: Cluster<S, L>) -> Option<Journal<S>>
+>(rt: &R, house: &Arc<House>, cluster: Cluster<S, L>, past: Option<Past>) -> Option<Journal<S>>
     ensures { IfSome result (λ journal. IsClosed S.stored L.cluster L.kept L.numbers journal) }
 {
     let seats = SeatPool::none(house.alloc);
     let Ok(theirs) = Arc::try_clone(house) else {
+        drop(past);
         house.end_by(rt, Ending::NoPart);
         return closed(cluster, seats.into_seats());
     };
@@ -120,7 +121,7 @@ fn part<
         cluster,
         seats,
     };
-    run(rt, &shared);
+    run(rt, &shared, past);
     let Shared { cluster, seats, .. } = shared;
     closed(cluster, seats.into_seats())
 }
@@ -141,14 +142,16 @@ fn closed<S: StableStore + Drop, L: Begins>(
     }
 }
 
-/// Runs the nodes until the part is over, or the server ends.
+/// Runs the nodes until the part is over, or the server ends. A thread lets go of the part before, which takes a while for each of its entries; if it can't be
+/// started, it is let go here.
 fn run<
     S: StableStore + Send + Sync,
     L: Begins + Send + Sync,
     R: Threads + Wait + Eprint + Clock + Sync,
->(rt: &R, shared: &Shared<S, L>) {
+>(rt: &R, shared: &Shared<S, L>, past: Option<Past>) {
     thread::scope(thread::scope_env(), rt, move |scope| {
         start_nodes(rt, scope, shared);
+        let _ = scope.spawn(move || drop(past));
         watch(rt, shared);
     });
 }

@@ -1,5 +1,7 @@
 //! What the threads of a node share in one of its lives.
 
+ghost use Rattle.std.specs.Prelude.{◌≡◌};
+
 use crate::shared::Shared;
 use crate::trouble::Trouble;
 use mc_types::{MsgId, NodeNo};
@@ -28,7 +30,9 @@ pub(crate) struct Shift<'a, S: StableStore, L: Begins, R> {
 
 impl<S: StableStore, L: Begins, R: Wait + Eprint + Clock> Shift<'_, S, L, R> {
     /// The node.
-    pub(crate) fn node(&self) -> NodeNo {
+    pub(crate) fn node(&self) -> NodeNo
+        ensures { result ≡ self.now.station.now.node }
+    {
         self.station.node
     }
 

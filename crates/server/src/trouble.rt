@@ -1,5 +1,6 @@
 //! What a refusal of the cluster means to the server.
 
+use esme_site::AskFault;
 use node_workers::Refusal;
 use std::alloc::AllocError;
 
@@ -36,5 +37,14 @@ impl From<Refusal> for Trouble {
 impl From<AllocError> for Trouble {
     fn from(_error: AllocError) -> Trouble {
         Trouble::Memory
+    }
+}
+
+impl From<AskFault<Refusal>> for Trouble {
+    fn from(fault: AskFault<Refusal>) -> Trouble {
+        match fault {
+            AskFault::Memory => Trouble::Memory,
+            AskFault::Step(refusal) => Trouble::from(refusal),
+        }
     }
 }

@@ -1,5 +1,5 @@
 use Rattle.esme_service.specs.Settings.{settings_of}
-use Rattle.script_site.proofs.Askers.{ended_asks}
+use Rattle.esme_site.proofs.Askers.{ended_asks}
 use Rattle.script_site.proofs.Heeding.{end_acts}
 use Rattle.script_site.proofs.site.Site.end.Goals as goal
 

@@ -1,10 +1,11 @@
-use Rattle.std.proofs.Common.{List, subst}
+use Rattle.std.proofs.Common.{List, Some, None, subst}
 use Rattle.esme_service.specs.Settings.{settings_of}
 use Rattle.sessions.specs.declared.pushed.Pushed.{Pushed}
 use Rattle.script_text.specs.Attempts.{all_given_up}
-use Rattle.script_site.specs.Asking.{HasAsker}
+use Rattle.esme_site.specs.Asking.{HasAsker}
+use Rattle.esme_site.specs.declared.asking.Asking.{Asking}
 use Rattle.script_site.specs.Sites.{Goes}
-use Rattle.script_site.proofs.Heeded.{answer_heeded, gone_heeded, nothing_heeded, refused_heeded, response_heeded, waiting_heeded}
+use Rattle.script_site.proofs.Heeded.{answer_heeded, asked_so, gone_heeded, nothing_heeded, refused_heeded, response_heeded, waiting_heeded}
 use Rattle.script_site.proofs.site.Site.heed.Goals as goal
 
 pub returns-in-Nothing : goal.returns-in-Nothing
@@ -21,18 +22,25 @@ returns-in-Response c =
 pub ask-requires : goal.ask-requires
 ask-requires c = subst (HasAsker c.args.self.now.service.sessions c.args.number) c.in-Request.is c.requires
 
-pub returns-in-Some : goal.returns-in-Some
-returns-in-Some c =
-    refused_heeded (settings_of c.args.config.now) c.args.number (record { world = c.args.world.now; site = c.args.self.now }) c.write_outgoing-in-Some.result
-    c.args.heard c.in-Request.asked c.in-Request.request (record { world = c.ask.new.world; site = c.ask.new.self }) c.in-Some.refusal
-    c.args.text.now.items c.write_outgoing-in-Some.new.text.items c.in-Request.is (rw c.in-Some.is at c.in_ok-refusal-in-Request.ensures)
-    (rw c.place-in-Some.ensures at c.write_outgoing-in-Some.ensures)
+pub returns-in-Ok-Some : goal.returns-in-Ok-Some
+returns-in-Ok-Some c =
+    let asking : Asking = record { number = c.args.number; asked = c.in-Request.asked; request = c.in-Request.request } in
+    refused_heeded (settings_of c.args.config.now) c.args.number (record { world = c.args.world.now; site = c.args.self.now }) c.write_outgoing-in-Ok-Some.result
+    c.args.heard c.in-Request.asked c.in-Request.request
+    (record { world = c.ask.new.steps; site = record c.args.self.now { service = c.ask.new.service } }) c.in-Ok-Some.refusal
+    c.args.text.now.items c.write_outgoing-in-Ok-Some.new.text.items c.in-Request.is
+    (asked_so (record { world = c.args.world.now; site = c.args.self.now }) c.ask.new.steps c.ask.new.service asking (Some c.in-Ok-Some.refusal)
+    (rw c.in-Ok-Some.field-0-is at c.in-Ok-Some.ensures.asked))
+    (rw c.place-in-Ok-Some.ensures at c.write_outgoing-in-Ok-Some.ensures)
 
-pub returns-in-None : goal.returns-in-None
-returns-in-None c =
+pub returns-in-Ok-None : goal.returns-in-Ok-None
+returns-in-Ok-None c =
+    let asking : Asking = record { number = c.args.number; asked = c.in-Request.asked; request = c.in-Request.request } in
     waiting_heeded (settings_of c.args.config.now) c.args.number (record { world = c.args.world.now; site = c.args.self.now })
-    c.args.heard c.in-Request.asked c.in-Request.request (record { world = c.ask.new.world; site = c.ask.new.self })
-    c.args.text.now.items c.in-Request.is (rw c.in-None.is at c.in_ok-refusal-in-Request.ensures)
+    c.args.heard c.in-Request.asked c.in-Request.request (record { world = c.ask.new.steps; site = record c.args.self.now { service = c.ask.new.service } })
+    c.args.text.now.items c.in-Request.is
+    (asked_so (record { world = c.args.world.now; site = c.args.self.now }) c.ask.new.steps c.ask.new.service asking None
+    (rw c.in-Ok-None.field-0-is at c.in-Ok-None.ensures.asked))
 
 pub returns-in-Answer : goal.returns-in-Answer
 returns-in-Answer c =

@@ -1,23 +1,63 @@
 -- A request is heard only on a session that has an account.
-use Rattle.std.proofs.Common.{◌≡◌, ℕ, true, List, Option, Some, None, Result, Ok, Err, sym, ap, subst}
+use Rattle.std.proofs.Common.{◌≡◌, ℕ, Bool, true, false, cond, List, Option, Some, None, Result, Ok, Err, refl, sym, ap, ◌∙◌, subst}
+use Rattle.std.specs.BTreeMap.{is_at}
+use Rattle.std.specs.Map.{remove_entry}
+use Rattle.std.specs.Ordering.{nat_cmp}
 use Rattle.std.specs.Prelude.{is_some}
+use Rattle.node_model.proofs.Places.{here}
 use Rattle.pdu_bodies.specs.declared.pdu.Pdu.{Pdu}
 use Rattle.pdu_codec.specs.Pdu.{read_pdu}
 use Rattle.pdu_fields.specs.declared.fault.PduFault.{PduFault}
 use Rattle.desk.specs.declared.request.Request.{Request}
 use Rattle.sessions.specs.Session.{Session}
+use Rattle.sessions.specs.States.{is_gone}
 use Rattle.sessions.specs.Steps.{Done, on_wrong_length}
 use Rattle.sessions.specs.declared.reaction.Reaction.{Reaction}
 use Rattle.sessions.specs.declared.reaction.Reaction.TheVariants.{Nothing, Respond, Leave, Ask, Answered}
 use Rattle.sessions.specs.declared.requested.Requested.{Requested}
-use Rattle.esme_service.specs.Hearing.{Goes, asked_by, done_by, ends_at, ends_if, heard_in, heard_of, heeds, heeds_if, request_of, told_by}
+use Rattle.esme_service.specs.Hearing.{Goes, GoesIf, asked_by, done_by, ends_at, ends_if, heard_in, heard_of, heeds, heeds_if, request_of, told_by}
 use Rattle.esme_service.specs.Pushes.{session_at}
 use Rattle.esme_service.specs.Service.{Service}
-use Rattle.esme_service.specs.Sessions.{account_at, kept_at}
+use Rattle.esme_service.specs.Sessions.{account_at, account_of, kept_at, put_at}
 use Rattle.esme_service.specs.Settings.{Settings}
 use Rattle.esme_service.specs.declared.heard.Heard.{Heard}
-use Rattle.script_site.specs.Asking.{HasAsker}
-use Rattle.script_site.proofs.Serving.{account_so, itself_like}
+use Rattle.esme_site.specs.Asking.{HasAsker}
+
+-- ---- the session of a number
+
+pub put_so : (sessions : List (ℕ × Session)) (number : ℕ) (session : Session) → is_gone session.state ≡ false
+    → kept_at sessions number session ≡ put_at sessions number session
+put_so sessions number session stays =
+    ap (λ (gone : Bool). cond gone (remove_entry (is_at (nat_cmp number)) sessions) (put_at sessions number session)) stays
+
+pub found_put : (sessions : List (ℕ × Session)) (number : ℕ) (session : Session) → session_at (put_at sessions number session) number ≡ Some session
+found_put sessions number session = here number session (remove_entry (is_at (nat_cmp number)) sessions)
+
+-- a session of the account of another one, and gone if that is
+pub record IsLike (one other : Session) : Type 0 where
+  pub gone : is_gone one.state ≡ is_gone other.state
+  pub account : one.account ≡ other.account
+
+pub itself_like : (session : Session) → IsLike session session
+itself_like session = record { gone = refl; account = refl }
+
+-- its account is that of the session of this number, if one is connected still
+pub account_so : (sessions : List (ℕ × Session)) (number : ℕ) (served session : Session) → IsLike served session
+    → GoesIf (kept_at sessions number session) number (Some session)
+    → account_at (kept_at sessions number served) number ≡ served.account
+account_so sessions number served session like goes = by_gone (is_gone served.state) refl
+  where
+    by_gone : (gone : Bool) → is_gone served.state ≡ gone → account_at (kept_at sessions number served) number ≡ served.account
+    by_gone false is =
+        ap (λ (left : List (ℕ × Session)). account_at left number) (put_so sessions number served is) ∙ ap account_of (found_put sessions number served)
+    by_gone true is =
+        let goes_so = goes (sym like.gone ∙ is) in
+        let removed : kept_at sessions number served ≡ kept_at sessions number session =
+        ap (λ (gone : Bool). cond gone (remove_entry (is_at (nat_cmp number)) sessions) (put_at sessions number served)) is
+        ∙ sym (ap (λ (gone : Bool). cond gone (remove_entry (is_at (nat_cmp number)) sessions) (put_at sessions number session)) (sym like.gone ∙ is)) in
+        ap (λ (left : List (ℕ × Session)). account_at left number) removed ∙ ap account_of goes_so.1 ∙ sym (like.account ∙ goes_so.0)
+
+-- ---- what was heard
 
 module _ (left : List (ℕ × Session)) (number : ℕ) where
   told_asks : (reaction : Reaction) → HasAsker left number (told_by reaction)
