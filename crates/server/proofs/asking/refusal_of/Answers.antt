@@ -9,7 +9,10 @@ returns-in-Ok g c =
 
 pub returns-in-Err : goal.returns-in-Err
 returns-in-Err g c =
-    inr (record {
-      service_is = c.in-Err.ensures.service;
-      slips = no_slip c.in-Err.fault c.args.seat.now c.ask.new.steps c.in-Err.ensures.steps;
-    }, ap Some c.refusal.ensures)
+    inr (
+      record {
+        service_is = c.in-Err.ensures.service;
+        slips = no_slip c.in-Err.fault c.args.seat.now c.ask.new.steps c.in-Err.ensures.steps;
+      },
+      ap Some c.refusal.ensures,
+    )
