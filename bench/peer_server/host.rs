@@ -86,18 +86,22 @@ impl Host {
         centre.tell(0);
     }
 
-    /// The next message that waits for an account, if one of its sessions has room.
-    pub(super) fn next_for(&mut self, account: usize) -> Option<u64> {
+    fn has_room(&self, account: usize) -> bool {
         let has_room = |session: &Session| session.may_receive() && session.account == account && session.pushed.len() < WINDOW;
-        if !self.centre.sites[0].sessions.values().any(has_room) { return None }
-        self.granted[account].pop_front()
+        self.centre.sites[0].sessions.values().any(has_room)
     }
 
-    /// The attempt of a message is granted, and goes out.
-    pub(super) fn send_out(&mut self, id: u64) {
+    /// The next message that waits for an account, if one of its sessions has room.
+    pub(super) fn next_for(&mut self, account: usize) -> Option<u64> {
+        if self.has_room(account) { self.granted[account].pop_front() } else { None }
+    }
+
+    /// The attempt of a message of an account is granted, and goes out; it waits on if another thread took the room meanwhile.
+    pub(super) fn send_out(&mut self, account: usize, id: u64) {
+        if !self.has_room(account) { return self.granted[account].push_front(id) }
         let Ok(chain) = self.node().grant(id) else { return };
         let clock = self.node().clock;
-        let Some((number, sequence, knows_optional)) = self.centre.sites[0].push(chain.message.target, clock, Some((id, chain.place()))) else { return };
+        let Some((number, sequence, knows_optional)) = self.centre.sites[0].push(account, clock, Some((id, chain.place()))) else { return };
         put_pdu(&mut self.centre.text, (0, number), [DELIVER_SM, OK, sequence], &delivery(&chain.message, knows_optional));
     }
 }

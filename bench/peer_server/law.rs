@@ -105,7 +105,7 @@ impl Seat {
     fn feed(&mut self, account: usize) {
         loop {
             let Some(id) = self.post().host.next_for(account) else { return };
-            self.act(None, &id.to_be_bytes(), |host, _| host.send_out(id));
+            self.act(None, &id.to_be_bytes(), |host, _| host.send_out(account, id));
         }
     }
 

@@ -76,7 +76,7 @@ impl Plain {
     }
 
     fn feed(&mut self, account: usize) {
-        while let Some(id) = self.host.next_for(account) { self.host.send_out(id) }
+        while let Some(id) = self.host.next_for(account) { self.host.send_out(account, id) }
     }
 
     /// What the events changed is saved, by one transaction.
