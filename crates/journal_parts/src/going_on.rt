@@ -45,15 +45,6 @@ impl<S: StableStore> Journal<S> {
         Ok(into)
     }
 
-    /// The nodes as they are, node 1 first. It takes no memory.
-    pub fn into_posts(self) -> Vec<Post<S>>
-        ensures { map posted result.items ≡ self.posts }
-    {
-        let (posts, past) = self.split();
-        drop(past);
-        posts
-    }
-
     /// The nodes as they are, node 1 first, and what is left of the journal without them. It takes no memory.
     pub fn split(self) -> (Vec<Post<S>>, Past)
         ensures { map posted result.0.items ≡ self.posts }
