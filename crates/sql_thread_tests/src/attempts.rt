@@ -1,12 +1,12 @@
 //! The attempts of a row.
 
 use crate::hands::{Hands, given};
-use crate::stores::InMemory;
 use delivery::Outcome;
 use lines_of_tests::{Given, NOTHING};
 use mc_types::{MsgId, NodeNo};
 use node_core::{Life, Permit};
 use node_threads::{Begins, Cluster, Refusal};
+use stable_store::StableStore;
 use std::process::Abort;
 use std::sync::Wait;
 
@@ -44,10 +44,10 @@ impl<'l> Attempts<'l> {
     }
 
     /// Has the attempt of a message granted at a node.
-    pub fn grant<L: Begins, R: Wait + Abort>(
+    pub fn grant<S: StableStore, L: Begins, R: Wait + Abort>(
         &mut self,
         rt: &R,
-        cluster: &Cluster<InMemory, L>,
+        cluster: &Cluster<S, L>,
         hands: &mut Hands<L>,
         (node, id): (NodeNo, MsgId),
     ) -> Given {
@@ -63,10 +63,10 @@ impl<'l> Attempts<'l> {
     }
 
     /// Hands in what came of it.
-    pub fn answer<L: Begins, R: Wait + Abort>(
+    pub fn answer<S: StableStore, L: Begins, R: Wait + Abort>(
         &mut self,
         rt: &R,
-        cluster: &Cluster<InMemory, L>,
+        cluster: &Cluster<S, L>,
         hands: &mut Hands<L>,
         outcome: Outcome,
     ) -> Given {

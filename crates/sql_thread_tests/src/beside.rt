@@ -14,6 +14,7 @@ use lines_of_tests::{NOTHING, OF_THREE_NODES, account, node, request, told_in};
 use mc_types::NodeNo;
 use node_core::{Life, Node};
 use node_threads::{Action, Begins, Cluster, Entry, Journal};
+use stable_store::StableStore;
 use std::alloc::Global;
 use std::marker::Brand;
 use std::process::Abort;
@@ -29,9 +30,9 @@ fn second(rt: &impl Abort) -> NodeNo {
 }
 
 /// Asks for the message of the row at node 2, ten times, after which all packets come again each time.
-fn ask_again<L: Begins, R: Wait + Abort>(
+fn ask_again<S: StableStore, L: Begins, R: Wait + Abort>(
     rt: &R,
-    cluster: &Cluster<InMemory, L>,
+    cluster: &Cluster<S, L>,
     hands: &mut Hands<L>,
 ) {
     for _ in 0..10u32 {
@@ -47,13 +48,17 @@ fn ask_again<L: Begins, R: Wait + Abort>(
 }
 
 /// The journal of a row beside a thread that asks.
-fn journal_of<L: Begins + Send + Sync, R: Threads + Wait + Abort + Sync>(
+fn journal_of<
+    S: StableStore + Send + Sync + Drop,
+    L: Begins + Send + Sync,
+    R: Threads + Wait + Abort + Sync,
+>(
     rt: &R,
     alloc: Global,
     blank: Blank,
-    opened: (Vec<Node<InMemory>>, Vec<Life>),
+    opened: (Vec<Node<S>>, Vec<Life>),
     row: Row<'_>,
-) -> Journal<InMemory>
+) -> Journal<S>
     requires name { blank.name ≡ L.name }
     requires parts { blank.parts ≡ L.parts }
     requires all { blank.parts ≡ 1000000 }
@@ -62,7 +67,7 @@ fn journal_of<L: Begins + Send + Sync, R: Threads + Wait + Abort + Sync>(
     requires count { length opened.0.items ≡ L.cluster.nodes }
 {
     let (nodes, lives) = opened;
-    let cluster = Cluster::<InMemory, L>::start(alloc, blank, nodes).expect(rt, "a cluster");
+    let cluster = Cluster::<S, L>::start(alloc, blank, nodes).expect(rt, "a cluster");
     let mut one = Hands::at(rt, alloc, &cluster);
     let mut other = Hands::at(rt, alloc, &cluster);
     let ((), played) = thread::join(
@@ -101,10 +106,10 @@ fn told_by(rt: &impl Abort, entry: &Entry) -> Option<Told<'static>> {
 }
 
 /// What all nodes but node 2 told.
-fn told_in_journal(
+fn told_in_journal<S: StableStore>(
     rt: &impl Abort,
     alloc: Global,
-    journal: &Journal<InMemory>,
+    journal: &Journal<S>,
 ) -> Vec<Told<'static>> {
     let mut all = Vec::new(alloc);
     for place in 0..journal.len() {
@@ -135,7 +140,13 @@ fn rows_beside_a_thread_that_asks(rt: HostRuntime) {
     for text in OF_THREE_NODES.split("\n\n") {
         let opened = over_new_stores(&rt, alloc);
         let row = Row { text };
-        let journal = journal_of::<Brand, HostRuntime>(&rt, alloc, Blank::new(PARTS), opened, row);
+        let journal = journal_of::<InMemory, Brand, HostRuntime>(
+            &rt,
+            alloc,
+            Blank::new(PARTS),
+            opened,
+            row,
+        );
         let told = told_in_journal(&rt, alloc, &journal);
         let said = told_in_row(&rt, alloc, text);
         assert_same(&rt, &told.as_slice(), &said.as_slice());

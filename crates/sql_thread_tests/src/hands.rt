@@ -1,9 +1,10 @@
 //! Who hands in steps at a cluster.
 
-use crate::stores::{InMemory, NODES};
+use crate::stores::NODES;
 use lines_of_tests::{Answer, Given, NOTHING, OTHER, answer_in, node, told_in};
 use node_core::Outputs;
 use node_threads::{Action, Begins, Cluster, Refusal, Seat};
+use stable_store::StableStore;
 use std::alloc::Global;
 use std::process::Abort;
 use std::sync::Wait;
@@ -29,7 +30,11 @@ pub fn given(outputs: &Outputs) -> Given {
 
 impl<L: Begins> Hands<L> {
     /// Those with a seat of their own, from which no step was handed in.
-    pub fn at<R: Wait + Abort>(rt: &R, alloc: Global, cluster: &Cluster<InMemory, L>) -> Hands<L> {
+    pub fn at<S: StableStore, R: Wait + Abort>(
+        rt: &R,
+        alloc: Global,
+        cluster: &Cluster<S, L>,
+    ) -> Hands<L> {
         Hands {
             alloc,
             seat: cluster.seat(rt).expect(rt, "a seat"),
@@ -38,10 +43,10 @@ impl<L: Begins> Hands<L> {
     }
 
     /// Hands in an action that is not refused.
-    pub fn act<R: Wait + Abort>(
+    pub fn act<S: StableStore, R: Wait + Abort>(
         &mut self,
         rt: &R,
-        cluster: &Cluster<InMemory, L>,
+        cluster: &Cluster<S, L>,
         action: Action,
     ) -> Given {
         let slip = cluster.act(rt, &mut self.seat, action).expect(rt, "a slip");
@@ -49,10 +54,10 @@ impl<L: Begins> Hands<L> {
     }
 
     /// What a packet tells that comes to a node, if there is one with this number.
-    fn deliver<R: Wait + Abort>(
+    fn deliver<S: StableStore, R: Wait + Abort>(
         &mut self,
         rt: &R,
-        cluster: &Cluster<InMemory, L>,
+        cluster: &Cluster<S, L>,
         number: u64,
         to: u8,
     ) -> Option<Answer> {
@@ -69,10 +74,10 @@ impl<L: Begins> Hands<L> {
     }
 
     /// The next packet comes to all nodes. What it tells there is put together with what was told before it. None if there is no such packet.
-    fn come<R: Wait + Abort>(
+    fn come<S: StableStore, R: Wait + Abort>(
         &mut self,
         rt: &R,
-        cluster: &Cluster<InMemory, L>,
+        cluster: &Cluster<S, L>,
         told: (u64, Answer),
     ) -> Option<(u64, Answer)> {
         let number = self.next;
@@ -87,10 +92,10 @@ impl<L: Begins> Hands<L> {
 
     /// Each packet that did not come to all nodes from here comes to them, those that are sent meanwhile, too. What is told then is one thing at most, with its
     /// node.
-    pub fn settle<R: Wait + Abort>(
+    pub fn settle<S: StableStore, R: Wait + Abort>(
         &mut self,
         rt: &R,
-        cluster: &Cluster<InMemory, L>,
+        cluster: &Cluster<S, L>,
     ) -> (u64, Answer) {
         let mut told = (0, NOTHING);
         for _ in 0..MOST {

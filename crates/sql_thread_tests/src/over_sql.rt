@@ -13,6 +13,7 @@ use crate::stores::{InMemory, PARTS, over_new_stores};
 use lines_of_tests::{NOTHING, OF_THREE_NODES};
 use node_core::{Life, Node};
 use node_threads::{Begins, Cluster};
+use stable_store::StableStore;
 use std::alloc::Global;
 use std::marker::Brand;
 use std::process::Abort;
@@ -33,11 +34,11 @@ fn assert_said(rt: &impl Abort, played: &Played<'_>) {
 }
 
 /// Each line of a row tells what it says; then the cluster closes, with an entry for each slip.
-fn assert_row<L: Begins, R: Wait + Abort>(
+fn assert_row<S: StableStore + Drop, L: Begins, R: Wait + Abort>(
     rt: &R,
     alloc: Global,
     blank: Blank,
-    opened: (Vec<Node<InMemory>>, Vec<Life>),
+    opened: (Vec<Node<S>>, Vec<Life>),
     row: Row<'_>,
 )
     requires name { blank.name ≡ L.name }
@@ -48,7 +49,7 @@ fn assert_row<L: Begins, R: Wait + Abort>(
     requires count { length opened.0.items ≡ L.cluster.nodes }
 {
     let (nodes, lives) = opened;
-    let cluster = Cluster::<InMemory, L>::start(alloc, blank, nodes).expect(rt, "a cluster");
+    let cluster = Cluster::<S, L>::start(alloc, blank, nodes).expect(rt, "a cluster");
     let mut hands = Hands::at(rt, alloc, &cluster);
     for played in &play_row(rt, &cluster, &mut hands, lives, row) {
         assert_said(rt, played);
@@ -65,6 +66,12 @@ fn rows_over_sql(rt: HostRuntime) {
     let alloc = rt.alloc();
     for text in OF_THREE_NODES.split("\n\n") {
         let opened = over_new_stores(&rt, alloc);
-        assert_row::<Brand, HostRuntime>(&rt, alloc, Blank::new(PARTS), opened, Row { text });
+        assert_row::<InMemory, Brand, HostRuntime>(
+            &rt,
+            alloc,
+            Blank::new(PARTS),
+            opened,
+            Row { text },
+        );
     }
 }

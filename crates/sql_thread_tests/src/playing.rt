@@ -2,11 +2,11 @@
 
 use crate::attempts::Attempts;
 use crate::hands::Hands;
-use crate::stores::InMemory;
 use lines_of_tests::{Given, input_of, node, numbers};
 use mc_types::NodeNo;
 use node_core::{Input, Life};
 use node_threads::{Action, Begins, Cluster};
+use stable_store::StableStore;
 use std::process::Abort;
 use std::sync::Wait;
 
@@ -32,9 +32,9 @@ fn node_in<'r>(rt: &impl Abort, words: &'r str) -> (NodeNo, &'r str) {
 }
 
 /// What a node gives out at an input.
-fn take<L: Begins, R: Wait + Abort>(
+fn take<S: StableStore, L: Begins, R: Wait + Abort>(
     rt: &R,
-    cluster: &Cluster<InMemory, L>,
+    cluster: &Cluster<S, L>,
     hands: &mut Hands<L>,
     attempts: &mut Attempts<'_>,
     (node, input): (NodeNo, Input),
@@ -63,9 +63,9 @@ fn take<L: Begins, R: Wait + Abort>(
 }
 
 /// What comes of a line.
-fn play_line<'r, L: Begins, R: Wait + Abort>(
+fn play_line<'r, S: StableStore, L: Begins, R: Wait + Abort>(
     rt: &R,
-    cluster: &Cluster<InMemory, L>,
+    cluster: &Cluster<S, L>,
     hands: &mut Hands<L>,
     attempts: &mut Attempts<'_>,
     line: &'r str,
@@ -85,9 +85,9 @@ fn play_line<'r, L: Begins, R: Wait + Abort>(
 }
 
 /// What comes of lines between which no node starts anew.
-fn play_lines<'r, L: Begins, R: Wait + Abort>(
+fn play_lines<'r, S: StableStore, L: Begins, R: Wait + Abort>(
     rt: &R,
-    cluster: &Cluster<InMemory, L>,
+    cluster: &Cluster<S, L>,
     hands: &mut Hands<L>,
     lives: &[Life],
     lines: &'r str,
@@ -103,9 +103,9 @@ fn play_lines<'r, L: Begins, R: Wait + Abort>(
 }
 
 /// A node starts anew.
-fn start_anew<L: Begins, R: Wait + Abort>(
+fn start_anew<S: StableStore, L: Begins, R: Wait + Abort>(
     rt: &R,
-    cluster: &Cluster<InMemory, L>,
+    cluster: &Cluster<S, L>,
     hands: &mut Hands<L>,
     lives: &mut Vec<Life>,
     node: NodeNo,
@@ -122,9 +122,9 @@ fn start_anew<L: Begins, R: Wait + Abort>(
 }
 
 /// What comes of the lines of a row behind its name, but for those by which a node starts anew.
-pub fn play_row<'r, L: Begins, R: Wait + Abort>(
+pub fn play_row<'r, S: StableStore, L: Begins, R: Wait + Abort>(
     rt: &R,
-    cluster: &Cluster<InMemory, L>,
+    cluster: &Cluster<S, L>,
     hands: &mut Hands<L>,
     mut lives: Vec<Life>,
     row: Row<'r>,
