@@ -221,11 +221,10 @@ impl House {
             .all(|station| station.next.load(Ordering::SeqCst) > newest)
     }
 
-    /// Whether each node below this one has had a tick.
-    pub fn have_begun(&self, node: NodeNo) -> bool {
-        self.stations.iter().all(|station| {
-            station.node.number() >= node.number() || station.has_begun.load(Ordering::SeqCst)
-        })
+    /// Whether each node below this one may be served.
+    pub fn have_begun<R: Wait>(&self, rt: &R, node: NodeNo) -> bool {
+        self.stations.iter().all(|station| station.node.number() >= node.number()
+            || station.course_now(rt).serves())
     }
 
     /// Tells the operator that the centre serves, once all its nodes may be served for the first time.
@@ -233,7 +232,7 @@ impl House {
         let may_serve = self
             .stations
             .iter()
-            .all(|station| station.has_begun.load(Ordering::SeqCst));
+            .all(|station| station.course_now(rt).serves());
         if !may_serve || self.counters.serves.swap(true, Ordering::SeqCst) {
             return;
         }

@@ -4,6 +4,7 @@
 mod beat;
 mod bell;
 mod carriage;
+mod course;
 mod doors;
 mod ending;
 mod frames;
@@ -17,6 +18,7 @@ mod station;
 mod stop;
 
 pub use beat::Beat;
+pub use course::{Course, Need};
 pub use doors::Doors;
 pub use ending::{End, Ending};
 pub use house::{Counters, House};
@@ -24,5 +26,5 @@ pub use opening::house_of;
 pub use pace::Pace;
 pub use settings::Settings;
 pub use site::Site;
-pub use station::{Anew, Station, Wake};
+pub use station::{Station, Wake};
 pub use stop::Stop;

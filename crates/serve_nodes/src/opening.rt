@@ -3,6 +3,7 @@
 ghost use Rattle.std.specs.Prelude.{◌≡◌, IfOk};
 
 use crate::bell::Bell;
+use crate::course::Course;
 use crate::doors::Doors;
 use crate::ending::End;
 use crate::house::{Counters, House};
@@ -10,7 +11,7 @@ use crate::pace::Pace;
 use crate::rounds::Rounds;
 use crate::settings::Settings;
 use crate::site::Site;
-use crate::station::{Anew, Station};
+use crate::station::Station;
 use connection_parts::Timepiece;
 use crossbeam_channel::unbounded;
 use mc_types::NodeNo;
@@ -20,7 +21,7 @@ use std::alloc::{AllocError, Global};
 use std::collections::VecDeque;
 use std::rt::Clock;
 use std::sync::Mutex;
-use std::sync::atomic::{AtomicBool, AtomicU64};
+use std::sync::atomic::AtomicU64;
 use std::time::Instant;
 
 /// The server with these doors and settings. An `Err` is want of memory.
@@ -78,14 +79,10 @@ fn stations_of<R: Clock>(
             wakes,
             woken,
             next: AtomicU64::new(1),
-            anew: Anew::none(),
-            has_ticked: AtomicBool::new(false),
-            has_begun: AtomicBool::new(false),
+            course: Mutex::new(Course::first()),
             rounds: Rounds::none(),
             bell: Bell::silent(),
             news: Signal::silent(),
-            is_anew: AtomicBool::new(false),
-            serials: AtomicU64::new(0),
             life: Mutex::new(lives.pop_front()),
         })?;
     }

@@ -49,7 +49,7 @@ impl<S: StableStore, L: Begins, R: Wait + Eprint + Clock> Steps<Shift<'_, S, L, 
             refused: outputs.refused,
         };
         if is_message && taken.ticket.is_some() {
-            shift.station.count_serial();
+            shift.station.course.lock(shift.rt).count_serial();
         }
         Ok(taken)
     }

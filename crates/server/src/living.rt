@@ -6,12 +6,11 @@ use crate::starting::{start_attendant, start_packets, start_ticks};
 use crate::ticking::tick_first;
 use mc_types::MsgId;
 use node_workers::{Begins, Life, Refusal};
-use serve_nodes::{Ending, House, Station, Wake};
+use serve_nodes::{Course, Ending, House, Need, Station, Wake};
 use serve_sessions::Reason;
 use stable_store::StableStore;
 use std::rt::Clock;
 use std::sync::Wait;
-use std::sync::atomic::Ordering;
 use std::thread;
 use std::thread::{Scope, Threads};
 
@@ -93,7 +92,7 @@ fn attend_all<
         if shift.is_over() {
             return;
         }
-        if shift.station.has_begun.load(Ordering::SeqCst) {
+        if shift.station.course_now(shift.rt).serves() {
             start_attendants(shift, scope);
         }
         shift.station.news.wait(shift.rt, LOOK_GAP);
@@ -196,7 +195,7 @@ fn next_life<S: StableStore, L: Begins, R: Wait + Eprint + Clock>(
 /// Tells the operator why a node starts anew.
 fn tell_anew<R: Wait + Eprint + Clock>(rt: &R, house: &House, station: &Station) {
     let number = station.node.number();
-    if station.anew.has_failed() {
+    if station.course_now(rt).wanted() == Some(Need::Store) {
         house.log.must_tell(
             rt,
             format_args!("node {number}: its store failed; it starts anew"),
@@ -267,11 +266,8 @@ fn begin_anew<S: StableStore, L: Begins, R: Wait + Eprint + Clock>(
         site.refuse_waiting(rt, id);
     }
     drop(site);
-    station.serials.store(0, Ordering::SeqCst);
-    station.has_ticked.store(false, Ordering::SeqCst);
-    station.has_begun.store(false, Ordering::SeqCst);
-    station.is_anew.store(true, Ordering::SeqCst);
-    station.anew.is_done();
+    let mut course = station.course.lock(rt);
+    *course = Course::anew();
 }
 
 /// A node can't be started anew. If that is since the journal is full, it is tried again in the next part; else the server ends.

@@ -6,7 +6,7 @@ use crate::shared::Shared;
 use crate::trouble::Trouble;
 use mc_types::{MsgId, NodeNo};
 use node_workers::{Attempt, Begins, Life, Seat, Slip};
-use serve_nodes::{Ending, House, Site, Station};
+use serve_nodes::{Ending, House, Need, Site, Station};
 use serve_sessions::{Notice, Whom};
 use stable_store::StableStore;
 use std::alloc::AllocError;
@@ -39,7 +39,9 @@ impl<S: StableStore, L: Begins, R: Wait + Eprint + Clock> Shift<'_, S, L, R> {
     /// Whether the life is over, or rests: the node is to start anew, the part of the journal is closed, or the server ends.
     pub(crate) fn is_over(&self) -> bool {
         let house = &self.shared.house;
-        self.station.anew.is_due() || house.pace.rests() || house.is_over(self.rt)
+        self.station.course_now(self.rt).wanted().is_some()
+            || house.pace.rests()
+            || house.is_over(self.rt)
     }
 
     /// Whether no delivery is to be begun.
@@ -51,7 +53,7 @@ impl<S: StableStore, L: Begins, R: Wait + Eprint + Clock> Shift<'_, S, L, R> {
     /// Whether the node has few serials left.
     pub(crate) fn has_few_serials(&self) -> bool {
         let first = self.shared.house.config.first_serial;
-        self.shared.house.pace.goes_on() && self.station.has_few_serials(first)
+        self.shared.house.pace.goes_on() && self.station.course_now(self.rt).has_few_serials(first)
     }
 
     /// What follows from a refusal of the cluster.
@@ -59,7 +61,7 @@ impl<S: StableStore, L: Begins, R: Wait + Eprint + Clock> Shift<'_, S, L, R> {
         match trouble {
             Trouble::Full if self.shared.house.pace.goes_on() => self.shared.house.rest(),
             Trouble::Full => self.shared.house.end_by(self.rt, Ending::Full),
-            Trouble::Store => self.station.fail(),
+            Trouble::Store => self.station.need(self.rt, Need::Store),
             Trouble::Memory => self.shared.house.want(),
             Trouble::Nothing => {}
         }

@@ -3,7 +3,7 @@
 use crate::shift::{FEW_LOOKS, Shift, ring};
 use crate::trouble::Trouble;
 use node_workers::{Action, Begins, Seat};
-use serve_nodes::{Beat, Ending};
+use serve_nodes::{Beat, Ending, Need};
 use serve_sessions::Mark;
 use stable_store::StableStore;
 use std::rt::Clock;
@@ -32,13 +32,13 @@ pub(crate) fn tick_first<S: StableStore, L: Begins, R: Wait + Eprint + Clock>(
     shift: &Shift<'_, S, L, R>,
 ) {
     let station = shift.station;
-    if station.has_begun.load(Ordering::SeqCst) {
+    if station.course_now(shift.rt).serves() {
         return;
     }
-    if !station.has_ticked.load(Ordering::SeqCst) {
+    if !station.course_now(shift.rt).has_ticked() {
         tick_once(shift);
     }
-    if station.is_anew.load(Ordering::SeqCst) {
+    if station.course_now(shift.rt).is_anew() {
         shift.tell_node("its first tick is under way; it serves");
     } else {
         wait_for_rounds(shift);
@@ -48,10 +48,8 @@ pub(crate) fn tick_first<S: StableStore, L: Begins, R: Wait + Eprint + Clock>(
 
 /// The node may be served, unless its first tick is still to come, or its rounds are waited for in the next part of the journal.
 fn begin<S: StableStore, L: Begins, R: Wait + Eprint + Clock>(shift: &Shift<'_, S, L, R>) {
-    if shift.station.has_ticked.load(Ordering::SeqCst)
-        && !shift.is_over()
-        && !shift.station.has_begun.swap(true, Ordering::SeqCst)
-    {
+    let begins = !shift.is_over() && shift.station.course.lock(shift.rt).serve();
+    if begins {
         shift.shared.house.tell_nodes();
         shift.shared.house.tell_serving(shift.rt);
     }
@@ -67,7 +65,7 @@ fn tick_once<S: StableStore, L: Begins, R: Wait + Eprint + Clock>(shift: &Shift<
     let _ = shift.station.news.wait_until(
         shift.rt,
         BELOW_PATIENCE,
-        &|| shift.is_over() || house.have_begun(shift.node()),
+        &|| shift.is_over() || house.have_begun(shift.rt, shift.node()),
     );
     if !shift.is_over()
         && let Err(trouble) = tick(shift, &mut seat, false)
@@ -144,7 +142,7 @@ fn start_anew_if_low<S: StableStore, L: Begins, R: Wait + Eprint + Clock>(
     drop(site);
     let house = &shift.shared.house;
     if (!is_busy && house.have_come(house.newest())) || waits_no_more {
-        shift.station.run_low();
+        shift.station.need(shift.rt, Need::Serials);
     }
     is_held
 }
@@ -180,7 +178,7 @@ fn wait_for_rounds<S: StableStore, L: Begins, R: Wait + Eprint + Clock>(
             station.rounds.give_up();
         }
     }
-    if station.is_anew.swap(false, Ordering::SeqCst) {
+    if station.course.lock(shift.rt).settle() {
         shift.tell_node("through with its first tick");
     }
 }
@@ -197,7 +195,7 @@ fn tell_progress<S: StableStore, L: Begins, R: Wait + Eprint + Clock>(
     if !told.is_past(shift.rt, TOLD_GAP) {
         return told;
     }
-    if !shift.station.has_begun.load(Ordering::SeqCst) {
+    if !shift.station.course_now(shift.rt).serves() {
         let house = &shift.shared.house;
         let node = shift.node().number();
         let come = house.first_left().saturating_sub(1);
@@ -238,7 +236,7 @@ fn tick<S: StableStore, L: Begins, R: Wait + Eprint + Clock>(
     };
     let slip = shift.shared.cluster.act(shift.rt, seat, tick)?;
     ring(shift.rt, &shift.shared.house, &slip);
-    shift.station.has_ticked.store(true, Ordering::SeqCst);
+    shift.station.course.lock(shift.rt).tick();
     shift.station.rounds.begin(shift.shared.house.newest());
     site.pass(moment);
     site.tell(shift.rt, slip.outputs())?;
