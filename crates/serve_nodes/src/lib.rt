@@ -19,6 +19,7 @@ mod stop;
 pub use beat::Beat;
 pub use doors::Doors;
 pub use ending::{End, Ending};
+pub use frames::Frames;
 pub use house::{Counters, House};
 pub use opening::house_of;
 pub use pace::Pace;
