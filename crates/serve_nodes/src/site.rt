@@ -11,12 +11,12 @@ use crate::carriage::Carriage;
 use crate::frames::Frames;
 use connection_parts::{Frame, Job, Tally};
 use esme_service::{HeardPdu, Service};
-use esme_site::{post_for_all, post_on, reply_all, tell};
+use esme_site::{post_for_all, reply_all, tell};
 use mc_types::{Moment, MsgId, Slot};
 use node_core::{MayBegin, MessageIds, Outputs, Reach};
 use pdu_codec::SystemId;
 use serve_sessions::{Arrival, Berth, Connection, Mark, Reason, Whom};
-use sessions::{Delivery, Outgoing, Pushed, WINDOW};
+use sessions::{Delivery, Pushed, WINDOW};
 use std::alloc::{AllocError, Global};
 use std::collections::BTreeMap;
 use std::rt::Clock;
@@ -150,21 +150,6 @@ impl Site {
         }
     }
 
-    /// The response to a PDU of a session goes out; the centre has this system_id. An `Err` is want of memory.
-    pub fn respond<R: Wait>(
-        &self,
-        rt: &R,
-        system_id: &SystemId,
-        number: u8,
-        outgoing: Outgoing,
-    ) -> Result<(), AllocError> {
-        self.post(
-            rt,
-            Frame::of_response(self.alloc, system_id, number, outgoing)?,
-        );
-        Ok(())
-    }
-
     /// What is put for its sessions from now on.
     pub fn outlet(&self) -> Frames
         ensures { result.frames.items ≡ [] }
@@ -240,14 +225,6 @@ impl Site {
         let mut frames = self.outlet();
         let _ = reply_all(&mut self.service, &mut frames, &[reply]);
         self.post_all(rt, frames);
-    }
-
-    /// The receipts that wait for the account of a session go out. An `Err` is want of memory.
-    pub fn post_on<R: Wait>(&mut self, rt: &R, number: u8) -> Result<(), AllocError> {
-        let mut frames = self.outlet();
-        let posted = post_on(&mut self.service, &mut frames, self.clock, number);
-        self.post_all(rt, frames);
-        posted
     }
 
     /// The receipts that wait for these accounts go out. An `Err` is want of memory.
