@@ -3,3 +3,5 @@ pub mod Replies
 pub mod Receipts
 pub mod GivenOut
 pub mod Askers
+mod OnSession
+pub mod Ending

@@ -9,13 +9,14 @@ use Rattle.waiting_requests.specs.Replying.{reply_given}
 use Rattle.esme_service.specs.Pushes.{deliver_sm}
 use Rattle.esme_service.specs.Reports.{reported_on}
 use Rattle.esme_service.specs.Service.{Service}
+use Rattle.esme_service.specs.Sessions.{account_at}
 use Rattle.esme_service.specs.Told.{owned_by}
 use Rattle.esme_service.specs.declared.pushed_on.PushedOn.{PushedOn}
 use Rattle.esme_service.specs.declared.sending.Sending.{Sending}
 use Rattle.esme_service.specs.declared.sending.Sending.TheVariants as sendings
 use Rattle.script_text.specs.Prints.{Print, AtOnce, Late, Delivers, Reports, Gone, Declined, Ungranted}
 use Rattle.script_text.specs.Left.{in_front}
-use Rattle.script_text.specs.Receipts.{Mail, Posted, all_posted}
+use Rattle.script_text.specs.Receipts.{Mail, Posted, all_posted, posted_for_any}
 use Rattle.script_text.specs.Runner.{reply_prints, Told, told}
 
 -- ---- what goes out
@@ -51,6 +52,12 @@ posted_behind now waiting receipts told = in_front told.prints (all_posted now (
 abbrev pub given_out : ℕ → Service → List Reply → List Receipt → Posted
 given_out now service replies receipts = posted_behind now service.waiting receipts (told service.sessions replies)
 
+-- ---- what waits
+
+-- what waits for the account of the session of a number goes out, if one is bound there
+abbrev pub posted_on : ℕ → Service → ℕ → Posted
+posted_on now service number = posted_for_any now (mail_in service) (account_at service.sessions number)
+
 -- ---- if there was no memory for some of it (own)
 
 -- the session on which it was to be put is lost
@@ -75,3 +82,8 @@ pub record HasSettled {O : Type 0} (puts : O → List Print → List ℕ → O �
   pub lost : List ℕ
   pub did : puts before put lost after
   pub settled : IsSettledBy put lost prints
+
+-- Receipts went out so, or none did and nothing changed.
+abbrev pub SettlesOrStays : {O : Type 0} → (O → List Print → List ℕ → O → Type 0) → Posted → Service → O → Service → O → Type 0
+SettlesOrStays puts posted service before left after =
+    ((mail_in left ≡ posted.next) × HasSettled puts posted.prints before after) ⊎ ((left ≡ service) × puts before [] [] after)

@@ -1,11 +1,14 @@
 //! Where what is put for sessions goes.
 
 ghost use Rattle.std.specs.Prelude.{◌≡◌, ◌++◌, ℕ, List, [], ◌∷◌, OnErr, OnOk};
+ghost use Rattle.sessions.specs.Responses.{pdu_of};
 ghost use Rattle.esme_service.specs.Sendings.{number_of};
-ghost use Rattle.script_text.specs.Prints.{Print};
+ghost use Rattle.script_text.specs.Prints.{AtOnce, Gone, Print};
 ghost use Rattle.esme_site.specs.Puts.{ArePrintsOf};
 
 use esme_service::Sending;
+use pdu_codec::SystemId;
+use sessions::Outgoing;
 use std::alloc::AllocError;
 
 /// Where what is put for the sessions of a node goes: a text, or connections.
@@ -16,6 +19,21 @@ pub trait Outlet {
     /// Puts the PDU of what goes out on the session of its number, if it has one. An `Err` is want of memory; then nothing is put.
     fn put(&mut self, sending: &Sending) -> Result<(), AllocError>
         ensures put { OnOk result ((prints : List Print) → ArePrintsOf sending.now prints → puts self.old prints [] self.new) }
+        ensures err { OnErr result (puts self.old [] [] self.new) };
+
+    /// Puts the response to a PDU of the session of a number; the centre has this system_id. An `Err` is want of memory; then nothing is put.
+    fn respond(
+        &mut self,
+        system_id: &SystemId,
+        number: u8,
+        outgoing: Outgoing,
+    ) -> Result<(), AllocError>
+        ensures put { OnOk result (puts self.old (AtOnce number (pdu_of system_id.now outgoing) ∷ []) [] self.new) }
+        ensures err { OnErr result (puts self.old [] [] self.new) };
+
+    /// Puts that the session of a number is gone. An `Err` is want of memory; then nothing is put.
+    fn end(&mut self, number: u8) -> Result<(), AllocError>
+        ensures put { OnOk result (puts self.old (Gone number ∷ []) [] self.new) }
         ensures err { OnErr result (puts self.old [] [] self.new) };
 
     /// There is no memory for what the session of a number is to get: it is lost.

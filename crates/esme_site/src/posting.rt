@@ -3,7 +3,7 @@
 ghost use Rattle.std.specs.Prelude.{◌≡◌, [], map, OnErr, OnOk};
 ghost use Rattle.node_model.specs.Reported.{receipt_of};
 ghost use Rattle.script_text.specs.Receipts.{all_posted, posted, posted_for, posted_for_all};
-ghost use Rattle.esme_site.specs.Puts.{HasSettled, mail_in};
+ghost use Rattle.esme_site.specs.Puts.{HasSettled, SettlesOrStays, mail_in, posted_on};
 
 use crate::outlet::{Outlet, put_or_lose};
 use esme_service::Service;
@@ -31,6 +31,28 @@ pub fn post_for<O: Outlet>(
         };
         posted = posted.and(put_or_lose(outlet, &sending));
     }
+}
+
+/// The receipts that wait for the account of the session of a number go out at a moment, as far as its sessions take them; none if nobody is bound there. An `Err`
+/// is as that of `post_for`, or nothing went out and nothing changed.
+pub fn post_on<O: Outlet>(
+    service: &mut Service,
+    outlet: &mut O,
+    now: Moment,
+    number: u8,
+) -> Result<(), AllocError>
+    ensures mail { OnOk result (mail_in service.new ≡ (posted_on now service.old number).next) }
+    ensures put { OnOk result (O.puts outlet.old (posted_on now service.old number).prints [] outlet.new) }
+    ensures err { OnErr result (SettlesOrStays O.puts (posted_on now service.old number) service.old outlet.old service.new outlet.new) }
+{
+    if !service.has_receipts() {
+        return Ok(());
+    }
+    let Some(account) = service.account(number) else {
+        return Ok(());
+    };
+    let account = account.copy()?;
+    post_for(service, outlet, now, &account)
 }
 
 /// The receipts that wait for these accounts go out, for one account after the other. An `Err` is as that of `post_for`.

@@ -13,7 +13,7 @@ use std::alloc::Global;
 use std::process::Abort;
 
 /// Session 1 is bound by sme1, and session 2 by sme2.
-fn two_accounts(rt: &impl Abort, alloc: Global, config: &Config) -> Service {
+pub fn two_accounts(rt: &impl Abort, alloc: Global, config: &Config) -> Service {
     let mut service = bound(rt, alloc, 1, (BIND, b""));
     service.begin(2).expect(rt, "memory");
     let heard = service.hear(config, 2, BIND_SME2);
@@ -61,7 +61,7 @@ fn shown(rt: &impl Abort, alloc: Global, config: &Config, came: Came) -> (Vec<u8
 }
 
 /// The tickets and sequence_numbers of the requests that wait on a session.
-fn waiting(rt: &impl Abort, alloc: Global, service: &Service, number: u8) -> Vec<(u64, u32)> {
+pub fn waiting(rt: &impl Abort, alloc: Global, service: &Service, number: u8) -> Vec<(u64, u32)> {
     let mut waiting = Vec::new(alloc);
     if let Some(session) = service.sessions().get(&number) {
         for request in session.requests() {
@@ -72,12 +72,12 @@ fn waiting(rt: &impl Abort, alloc: Global, service: &Service, number: u8) -> Vec
     waiting
 }
 
-const WAITS: Taken = Taken {
+pub const WAITS: Taken = Taken {
     ticket: Some(7),
     refused: None,
 };
 
-const REFUSED: Taken = Taken {
+pub const REFUSED: Taken = Taken {
     ticket: None,
     refused: Some(Status::MessageQueueFull),
 };
@@ -115,7 +115,7 @@ fn a_request_goes_to_the_node_for_its_account(rt: HostRuntime) {
 }
 
 /// That the submit_sm was handed in once, at its place, for the account of its session.
-fn assert_handed(rt: &impl Abort, shows: &str, steps: Counted) {
+pub fn assert_handed(rt: &impl Abort, shows: &str, steps: Counted) {
     let mut count = 0usize;
     for handed in steps.handed() {
         let found = (

@@ -6,7 +6,7 @@ use crate::replies::accepted;
 use crate::same::assert_same;
 use crate::values::{at, bound, chain, sme1};
 use esme_service::Service;
-use esme_site::{post_all, post_for, post_for_all, reply_all, tell};
+use esme_site::{post_all, post_for, post_for_all, post_on, reply_all, tell};
 use fate_chain::Chain;
 use pdu_codec::SystemId;
 use std::alloc::Global;
@@ -145,6 +145,24 @@ fn a_receipt_waits_for_its_account(rt: HostRuntime) {
     let first = post_for(&mut service, &mut kept, at(&rt, 0), &account);
     let again = post_for(&mut service, &mut kept, at(&rt, 0), &account);
     drop(account);
+    drop(service);
+    assert_same(
+        &rt,
+        &(first.is_ok(), again.is_ok(), kept.last()),
+        &(true, true, RECEIPT),
+    );
+    assert_events(&rt, "once", kept, &[(1, 163)]);
+}
+
+#[test]
+fn a_receipt_goes_out_on_a_session_of_its_account(rt: HostRuntime) {
+    let alloc = rt.alloc();
+    let mut service = waiting(&rt, alloc);
+    let mut kept = Kept::none(alloc, 0);
+    let elsewhere = post_on(&mut service, &mut kept, at(&rt, 0), 2);
+    assert_same(&rt, &(elsewhere.is_ok(), kept.events().len()), &(true, 0));
+    let first = post_on(&mut service, &mut kept, at(&rt, 0), 1);
+    let again = post_on(&mut service, &mut kept, at(&rt, 0), 1);
     drop(service);
     assert_same(
         &rt,

@@ -2,11 +2,19 @@
 
 use esme_service::Sending;
 use esme_site::Outlet;
+use pdu_codec::SystemId;
+use sessions::Outgoing;
 use std::alloc::{AllocError, Global};
 use std::process::Abort;
 
-/// An event at an outlet: the session, and the length of the PDU that was put there; or 0 if the session is lost.
+/// An event at an outlet: the session, and the length of the PDU that was put there; or `LOST` or `ENDED`.
 pub type Event = (u8, usize);
+
+/// The session is lost.
+const LOST: usize = 0;
+
+/// It was put that the session is gone.
+pub const ENDED: usize = 1;
 
 /// An outlet that keeps what was put, and of which the put of this number, from 1, wants memory; none does if it is 0. Nothing is said of it to proofs.
 #[derive(Drop)]
@@ -27,6 +35,22 @@ impl Kept {
         }
     }
 
+    /// Whether there is memory for this put.
+    fn has_memory(&mut self) -> Result<(), AllocError> {
+        self.fails_in = self.fails_in.wrapping_sub(1);
+        if self.fails_in == 0 {
+            return Err(AllocError);
+        }
+        Ok(())
+    }
+
+    /// Keeps octets that are put.
+    fn keep(&mut self, number: u8, octets: Vec<u8>) -> Result<(), AllocError> {
+        self.events.push((number, octets.len()))?;
+        self.last = octets;
+        Ok(())
+    }
+
     /// What was put and lost, the oldest first.
     pub fn events(&self) -> &[Event] {
         &self.events
@@ -42,20 +66,32 @@ impl Outlet for Kept {
     ghost puts = { λ _ _ _ _. Unit {0} };
 
     fn put(&mut self, sending: &Sending) -> Result<(), AllocError> {
-        self.fails_in = self.fails_in.wrapping_sub(1);
-        if self.fails_in == 0 {
-            return Err(AllocError);
-        }
+        self.has_memory()?;
         let Some(octets) = sending.octets(self.alloc)? else {
             return Ok(());
         };
-        self.events.push((sending.number(), octets.len()))?;
-        self.last = octets;
+        self.keep(sending.number(), octets)
+    }
+
+    fn respond(
+        &mut self,
+        system_id: &SystemId,
+        number: u8,
+        outgoing: Outgoing,
+    ) -> Result<(), AllocError> {
+        self.has_memory()?;
+        let octets = outgoing.octets(self.alloc, system_id)?;
+        self.keep(number, octets)
+    }
+
+    fn end(&mut self, number: u8) -> Result<(), AllocError> {
+        self.has_memory()?;
+        self.events.push((number, ENDED))?;
         Ok(())
     }
 
     fn lose(&mut self, number: u8) {
-        let _ = self.events.push((number, 0));
+        let _ = self.events.push((number, LOST));
     }
 
     ghost rests = { λ _. tt };

@@ -10,6 +10,8 @@ mod counted;
 #[cfg(test)]
 mod double;
 #[cfg(test)]
+mod heeds;
+#[cfg(test)]
 mod octets;
 #[cfg(test)]
 mod replies;

@@ -31,3 +31,19 @@ pub const ATTEMPTED: &[u8] = b"\x01\0\0\0\0\x3b\x9c\x50\xa1\0\x02\x01\x01\0\x01\
 pub const TOLD: &[u8] = b"\x02\0\0\0\0\x3b\x9c\x50\xa1\0\x04\x01\x01\0\x01\x65\xb9\x8d\x80\
 \x04sme1\x04sme1\0\x01\x01\x03144\x01\x01\x03155\0\0\0\x01\0\x65\xb9\x8d\x80\x65\xbd\x82\0\0\x02Hi\0\0\
 \x02\x01\0\x01\x65\xb9\x8d\x80\x01\x04\x01\0\x01\x65\xb9\x8d\x80\x02\0\0\x05\x01\0\x01\x65\xb9\x8d\x80";
+
+/// An enquire_link, and its response.
+pub const ENQUIRE_LINK: &[u8] = b"\0\0\0\x10\0\0\0\x15\0\0\0\0\0\0\0\x02";
+
+pub const LINKED: &[u8] = b"\0\0\0\x10\x80\0\0\x15\0\0\0\0\0\0\0\x02";
+
+/// An unbind, and its response.
+pub const UNBIND: &[u8] = b"\0\0\0\x10\0\0\0\x06\0\0\0\0\0\0\0\x02";
+
+pub const UNBOUND: &[u8] = b"\0\0\0\x10\x80\0\0\x06\0\0\0\0\0\0\0\x02";
+
+/// The deliver_sm_resp to what was pushed with the sequence_number 1.
+pub const DELIVER_ANSWER: &[u8] = b"\0\0\0\x11\x80\0\0\x05\0\0\0\0\0\0\0\x01\0";
+
+/// One to a deliver_sm that nobody sent.
+pub const STRAY_ANSWER: &[u8] = b"\0\0\0\x11\x80\0\0\x05\0\0\0\0\0\0\0\x09\0";

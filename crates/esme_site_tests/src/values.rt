@@ -8,9 +8,17 @@ use pdu_codec::{SystemId, Text};
 use std::alloc::Global;
 use std::process::Abort;
 
-pub fn sme1(rt: &impl Abort, alloc: Global) -> SystemId {
-    let text = Text::make(alloc, b"sme1").expect(rt, "memory");
+fn account(rt: &impl Abort, alloc: Global, octets: &[u8]) -> SystemId {
+    let text = Text::make(alloc, octets).expect(rt, "memory");
     text.expect(rt, "a text")
+}
+
+pub fn sme1(rt: &impl Abort, alloc: Global) -> SystemId {
+    account(rt, alloc, b"sme1")
+}
+
+pub fn sme2(rt: &impl Abort, alloc: Global) -> SystemId {
+    account(rt, alloc, b"sme2")
 }
 
 /// 2024-01-31T00:00:00Z, and so many seconds.

@@ -7,6 +7,7 @@ use Rattle.mc_model.specs.cluster.Steps.{Cluster, setup_of}
 use Rattle.node_model.specs.Kept.{Kept}
 use Rattle.node_model.specs.Outputs.{nothing}
 use Rattle.node_model.specs.Stepped.{stepped}
+use Rattle.node_laws.specs.Runs.{MayCome}
 use Rattle.stable_store.specs.Stored.{Stored}
 use Rattle.synod_acceptor.specs.Packets.{packet_of}
 use Rattle.synod_acceptor.specs.declared.packet.Packet.{Packet}
@@ -150,6 +151,14 @@ CanBeTaken (steps.Grant node id) packet = packet ≡ None
 CanBeTaken (steps.Answered node slot outcome) packet = packet ≡ None
 CanBeTaken (steps.Crash node number found) packet = ⊥
 CanBeTaken (steps.Restart node) packet = ⊥
+
+-- It took this step, which is that of a packet, and nothing goes out by it.
+pub record TakesQuietly {S : Type 0} (stored : S → Stored) (old : Posted S) (done : Taken) (new : Posted S) : Type 0 where
+  pub input : Given
+  pub comes : ComesWith done.step done.packet input
+  pub may : MayCome old.node.kept.setup (kept_of old.node.kept) (input_of old.node.kept.setup (kept_of old.node.kept) input)
+  pub gives : (stepped old.node.kept.setup (kept_of old.node.kept) (input_of old.node.kept.setup (kept_of old.node.kept) input)).outputs ≡ nothing
+  pub takes : Takes stored old input new
 
 -- what the node kept, what is to come to it, and the step as it will stand in the journal
 pub record Readied : Type 0 where

@@ -1,10 +1,11 @@
 //! A step that was taken.
 
-ghost use Rattle.std.specs.Prelude.{◌≡◌, ◌↔◌, IsTrue};
+ghost use Rattle.std.specs.Prelude.{◌≡◌, ◌↔◌, IfOk, IsTrue};
 ghost use Rattle.journal_parts.specs.Entries.{IsLike};
 
 use node_core::Outputs;
 use node_entry::Step;
+use std::alloc::AllocError;
 use synod_acceptor::Packet;
 
 /// A step that a node took: what came to it, the packet that came by it, if one did, and what it gave out. The step of a start anew has the packet in the save
@@ -24,6 +25,16 @@ impl Done {
         self.step.is(&other.step)
             && is_same_packet(&self.packet, &other.packet)
             && self.outputs.is(&other.outputs)
+    }
+
+    /// Its packet once more. An `Err` is want of memory.
+    pub(crate) fn packet_again(&self) -> Result<Option<Packet>, AllocError>
+        ensures { IfOk result (λ packet. packet ≡ self.now.packet) }
+    {
+        match &self.packet {
+            Some(packet) => Ok(Some(packet.copy()?)),
+            None => Ok(None),
+        }
     }
 }
 

@@ -1,7 +1,6 @@
 //! What stands under the locks of nodes in threads: each node with its own steps, and the journal of all.
 #![tactic(auto)]
 
-mod anew;
 mod begins;
 mod carried;
 mod claim;
@@ -20,9 +19,9 @@ mod ready;
 mod refusal;
 mod register;
 mod seat;
+mod silent;
 mod slip;
 
-pub use anew::Anew;
 pub use begins::Begins;
 pub use carried::Carried;
 pub use claim::Claim;
@@ -38,5 +37,6 @@ pub use ready::Ready;
 pub use refusal::Refusal;
 pub use register::{MOST_ENTRIES, MOST_SEATS, Register};
 pub use seat::Seat;
+pub use silent::Silent;
 pub use slip::Slip;
 pub use synod_acceptor::Packet;

@@ -17,13 +17,13 @@ ghost use Rattle.journal_parts.specs.declared.refusal.Refusal.TheVariants.{Broke
 ghost use Rattle.stable_store.specs.Stored.{HasFailed};
 ghost use Rattle.journal_parts.specs.Granting.{IsLeastAbove};
 
-use crate::anew::Anew;
 use crate::begins::Begins;
 use crate::copies::EntryCopies;
 use crate::entry::Entry;
 use crate::post::Post;
 use crate::ready::Ready;
 use crate::refusal::Refusal;
+use crate::silent::Silent;
 use fate_chain::Chain;
 use mc_types::{MsgId, NodeNo};
 use node_core::{Life, Node, Permit};
@@ -149,6 +149,26 @@ impl<S: StableStore, L: Begins> Member<S, L> {
         Ok(copies)
     }
 
+    /// Takes a step of this node, which is not astray, if it is that of a packet and the node takes it quietly, and adds its entry to its own. An `Err` leaves
+    /// all as it was, and hands the step back: `prepare` takes any. It takes no memory.
+    pub fn take_quietly(&mut self, silent: Silent) -> Result<EntryCopies, Silent>
+        requires taken { CanBeTaken silent.step silent.packet }
+        requires node { node_at silent.step ≡ self.old.post.node.kept.setup.node }
+        requires room { 1 ≤ self.old.room }
+        requires sound { self.old.post.astray ≡ false }
+        ensures entry { IfOk result (λ copies. copies ≡ record { done = done_of silent; unfinished = None }) }
+        ensures own { IfOk result (λ copies. self.new.own ≡ self.old.own ++ copies ∷ []) }
+        ensures back { IfErr result (λ back. back ≡ silent) }
+        ensures stays { OnErr result (self.new ≡ self.old) }
+    {
+        let Silent { done, copies } = silent;
+        if !self.post.take_quietly(&done) {
+            return Err(Silent { done, copies });
+        }
+        self.own.push_reserved(Entry::of(done));
+        Ok(copies)
+    }
+
     /// Commits a grant of this node that was prepared, if the node is as it was then and is neither Broken nor astray, in a life of this node and incarnation.
     /// It gives the permit of the attempt, and the entry for those that share it; it takes no memory.
     pub fn commit_grant<'l>(&mut self, life: &'l Life, ready: Ready) -> (Permit<'l>, EntryCopies)
@@ -249,17 +269,33 @@ impl<S: StableStore, L: Begins> Member<S, L> {
     }
 
     /// Prepares a start anew: it changes nothing but the room for entries. An `Err` is want of memory.
-    pub fn prepare_anew(&mut self) -> Result<Anew, AllocError>
+    pub fn prepare_anew(&mut self) -> Result<Silent, AllocError>
         ensures step { IfOk result (λ anew. anew.step ≡ steps.Restart self.old.post.node.kept.setup.node) }
         ensures packet { IfOk result (λ anew. anew.packet ≡ packet_halted self.old.post.halted) }
         ensures room { OnOk result (1 ≤ self.new.room) }
         ensures post { self.new.post ≡ self.old.post }
         ensures own { self.new.own ≡ self.old.own }
     {
-        let alloc = *self.own.allocator();
-        let anew = Anew::make(alloc, self.node(), self.post.halted_packet()?)?;
+        let step = Step::Restart { node: self.node() };
+        let packet = self.post.halted_packet()?;
+        self.prepare_silent(step, packet)
+    }
+
+    /// Prepares a step by which nothing goes out, with its packet, if it has one: it changes nothing but the room for entries. An `Err` is want of memory.
+    pub fn prepare_silent(
+        &mut self,
+        step: Step,
+        packet: Option<Packet>,
+    ) -> Result<Silent, AllocError>
+        ensures step { IfOk result (λ silent. silent.step ≡ step) }
+        ensures packet { IfOk result (λ silent. silent.packet ≡ packet) }
+        ensures room { OnOk result (1 ≤ self.new.room) }
+        ensures post { self.new.post ≡ self.old.post }
+        ensures own { self.new.own ≡ self.old.own }
+    {
+        let silent = Silent::make(*self.own.allocator(), step, packet)?;
         self.make_room()?;
-        Ok(anew)
+        Ok(silent)
     }
 
     /// Starts its node anew, if the life is its own and it is not astray, and adds the entry of it to its own; the new life, and the entry for those that share
@@ -268,7 +304,7 @@ impl<S: StableStore, L: Begins> Member<S, L> {
     pub fn start_anew(
         &mut self,
         life: Life,
-        anew: Anew,
+        anew: Silent,
     ) -> Result<(Life, EntryCopies), (Refusal, Life)>
         requires life { IsLifeOf self.old.post.node life }
         requires sound { self.old.post.astray ≡ false }
@@ -287,7 +323,7 @@ impl<S: StableStore, L: Begins> Member<S, L> {
         ensures life { IfErr result (λ failed. self.new.post.astray ≡ false → failed.1 ≡ life) }
         ensures left { IfErr result (λ failed. IsLifeOf self.new.post.node failed.1) }
     {
-        let Anew { done, mut copies } = anew;
+        let Silent { done, mut copies } = anew;
         let (life, save) = self.post.reopen(life)?;
         copies.name(save);
         self.own.push_reserved(Entry {

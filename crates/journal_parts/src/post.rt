@@ -12,7 +12,7 @@ ghost use Rattle.node_core.specs.Keeping.{kept_of};
 ghost use Rattle.node_core.specs.Steps.{input_of, outputs_of};
 ghost use Rattle.journal_parts.specs.Entries.{number_by, save_of};
 ghost use Rattle.journal_parts.specs.Faults.{fault_at};
-ghost use Rattle.journal_parts.specs.Members.{CanBeTaken, ComesWith, Reopens, Rests, Strays, Takes, halt_of, packet_halted, posted, save_by};
+ghost use Rattle.journal_parts.specs.Members.{CanBeTaken, ComesWith, Reopens, Rests, Strays, Takes, TakesQuietly, halt_of, packet_halted, posted, save_by};
 ghost use Rattle.journal_parts.specs.Refusals.{IsRefusedAs};
 ghost use Rattle.journal_parts.specs.declared.refusal.Refusal.TheVariants.{Broken, Damaged, Device, Memory, Spent};
 ghost use Rattle.stable_store.specs.Stored.{HasFailed};
@@ -102,6 +102,20 @@ impl<S: StableStore> Post<S> {
         }
     }
 
+    /// Takes a step, if it is that of a packet and the node takes it quietly. False leaves the node as it was, and says nothing of the packet: `prepare` takes
+    /// any. It takes no memory.
+    pub(crate) fn take_quietly(&mut self, done: &Done) -> bool
+        requires { CanBeTaken done.now.step done.now.packet }
+        ensures taken { result ≡ true → TakesQuietly S.stored (posted self.old) done.now (posted self.new) }
+        ensures stays { result ≡ false → self.new ≡ self.old }
+    {
+        let Some(packet) = &done.packet else {
+            return false;
+        };
+        is_well_made(packet);
+        self.node.take_quietly(packet)
+    }
+
     /// Commits a grant that was prepared, if the node is as it was then and is not Broken, in a life of this node and incarnation, and gives the permit of its
     /// attempt. It takes no memory.
     pub(crate) fn commit_grant<'l>(&mut self, life: &'l Life, pending: Pending) -> Permit<'l>
@@ -183,11 +197,8 @@ impl<S: StableStore> Post<S> {
     pub(crate) fn halted_packet(&self) -> Result<Option<Packet>, AllocError>
         ensures { IfOk result (λ packet. packet ≡ packet_halted (posted self.now).halted) }
     {
-        let Some(Halted { done, .. }) = &self.halted else {
-            return Ok(None);
-        };
-        match &done.packet {
-            Some(packet) => Ok(Some(packet.copy()?)),
+        match &self.halted {
+            Some(halted) => halted.done.packet_again(),
             None => Ok(None),
         }
     }

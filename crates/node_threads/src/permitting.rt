@@ -13,7 +13,7 @@ ghost use Rattle.journal_parts.specs.Step.TheVariants as steps;
 
 use delivery::Outcome;
 use journal_parts::{
-    Anew, Begins, Claim, EntryCopies, Member, Ready, Refusal, Register, Seat, Slip, Step,
+    Begins, Claim, EntryCopies, Member, Ready, Refusal, Register, Seat, Silent, Slip, Step,
 };
 use mc_types::{MsgId, NodeNo, Slot};
 use node_core::{Life, Permit};
@@ -297,7 +297,7 @@ pub(crate) fn started<S: StableStore, L: Begins>(
 fn prepared<S: StableStore, L: Begins>(
     member: &mut Member<S, L>,
     seat: &mut Seat<L>,
-) -> Result<Anew, Refusal>
+) -> Result<Silent, Refusal>
     ensures step { IfOk result (λ anew. anew.step ≡ steps.Restart member.old.post.node.kept.setup.node) }
     ensures packet { IfOk result (λ anew. anew.packet ≡ packet_halted member.old.post.halted) }
     ensures post { member.new.post ≡ member.old.post }

@@ -6,9 +6,11 @@ ghost use Rattle.journal_parts.specs.Faults.{IsCopied, fault_at};
 ghost use Rattle.journal_parts.specs.Members.{CanBeTaken, IsAct};
 ghost use Rattle.journal_parts.specs.Refusals.{IsRefusedAs};
 ghost use Rattle.journal_parts.specs.declared.refusal.Refusal.TheVariants.{Broken, Device, Full, Memory, NoSuchPacket};
+ghost use Rattle.journal_parts.specs.Step.TheVariants as steps;
 ghost use Rattle.journal_parts.specs.Taking.{node_at};
 
 use journal_parts::{Begins, EntryCopies, Member, Packet, Refusal, Register, Seat, Slip, Step};
+use mc_types::NodeNo;
 use stable_store::StableStore;
 use std::sync::{Mutex, Wait};
 
@@ -51,6 +53,74 @@ pub(crate) fn take<S: StableStore, L: Begins, R: Wait>(
 /// Takes a step of a node that works: the entry for those that share it. There is room for its slip then. An `Err` is Device, at the step of a packet alone,
 /// Memory, or as the step is refused; then the node has no other entry.
 fn committed<S: StableStore, L: Begins>(
+    member: &mut Member<S, L>,
+    seat: &mut Seat<L>,
+    step: Step,
+    packet: Option<Packet>,
+) -> Result<EntryCopies, Refusal>
+    requires node { node_at step ≡ member.old.post.node.kept.setup.node }
+    requires taken { CanBeTaken step packet }
+    requires works { member.old.post.node.broken ≡ false }
+    requires sound { member.old.post.astray ≡ false }
+    ensures step { IfOk result (λ copies. copies.done.step ≡ step) }
+    ensures finished { IfOk result (λ copies. copies.unfinished ≡ None) }
+    ensures own { IfOk result (λ copies. member.new.own ≡ member.old.own ++ copies ∷ []) }
+    ensures err { OnErr result (member.new.own ≡ member.old.own) }
+    ensures room { OnOk result (1 ≤ seat.new.room) }
+    ensures slips { seat.new.slips ≡ seat.old.slips }
+    ensures device { IsErrOf result Device → IsSome (number_by step) }
+    ensures faults { IfErr result (λ refusal. (refusal ≡ Device) ⊎ (refusal ≡ Memory) ⊎ IsRefusedAs (fault_at member.old.post.node step) refusal) }
+{
+    match step {
+        Step::Deliver { number, node } if may_be_quiet(&packet) => {
+            delivered(member, seat, number, node, packet)
+        }
+        step => stepped(member, seat, step, packet),
+    }
+}
+
+/// Whether nodes take some packets of this kind quietly. It is a hint, on which nothing rests.
+fn may_be_quiet(packet: &Option<Packet>) -> bool {
+    matches!(
+        packet,
+        Some(Packet::Promise { .. } | Packet::Voted { .. } | Packet::Tell { .. })
+    )
+}
+
+/// The same of the step of a packet, which the node may take quietly.
+fn delivered<S: StableStore, L: Begins>(
+    member: &mut Member<S, L>,
+    seat: &mut Seat<L>,
+    number: u64,
+    node: NodeNo,
+    packet: Option<Packet>,
+) -> Result<EntryCopies, Refusal>
+    requires node { node ≡ member.old.post.node.kept.setup.node }
+    requires taken { CanBeTaken (steps.Deliver number node) packet }
+    requires works { member.old.post.node.broken ≡ false }
+    requires sound { member.old.post.astray ≡ false }
+    ensures step { IfOk result (λ copies. copies.done.step ≡ steps.Deliver number node) }
+    ensures finished { IfOk result (λ copies. copies.unfinished ≡ None) }
+    ensures own { IfOk result (λ copies. member.new.own ≡ member.old.own ++ copies ∷ []) }
+    ensures err { OnErr result (member.new.own ≡ member.old.own) }
+    ensures room { OnOk result (1 ≤ seat.new.room) }
+    ensures slips { seat.new.slips ≡ seat.old.slips }
+    ensures faults { IfErr result (λ refusal. (refusal ≡ Device) ⊎ (refusal ≡ Memory)
+        ⊎ IsRefusedAs (fault_at member.old.post.node (steps.Deliver number node)) refusal) }
+{
+    let silent = member.prepare_silent(Step::Deliver { number, node }, packet)?;
+    seat.make_room()?;
+    match member.take_quietly(silent) {
+        Ok(copies) => Ok(copies),
+        Err(silent) => {
+            let packet = silent.into_packet()?;
+            stepped(member, seat, Step::Deliver { number, node }, packet)
+        }
+    }
+}
+
+/// The same of any step, by what it leads to.
+fn stepped<S: StableStore, L: Begins>(
     member: &mut Member<S, L>,
     seat: &mut Seat<L>,
     step: Step,

@@ -20,7 +20,7 @@ use Rattle.script_site.specs.Written.{Adds, IsWritten, line_of}
 
 module _ (r : Result (Unit {0}) AllocError) (node one two : ℕ) (before from to after : List ℕ) (here : one ≡ node) (begins : from ≡ before)
     (ends : after ≡ to) where
-  text_so : (prints : List Print) → Adds one from prints two to → after ≡ before ++ text_at node prints
+  pub text_so : (prints : List Print) → Adds one from prints two to → after ≡ before ++ text_at node prints
   text_so prints did = ends ∙ did.text ∙ (λ i. begins i ++ text_at (here i) prints)
 
   pub are_told : (told : Told) (left : List (ℕ × Session)) → left ≡ told.next → OnOk r (Adds one from told.prints two to)

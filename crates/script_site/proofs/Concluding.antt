@@ -6,7 +6,11 @@ use Rattle.mc_model.specs.node.Input.{Response}
 use Rattle.mc_model.specs.synod.Packet.{Slot}
 use Rattle.node_model.specs.Granted.{is_open}
 use Rattle.delivery.specs.Kept.{outcome_kept}
+use Rattle.delivery.specs.Outcomes.{told_in}
 use Rattle.delivery.specs.declared.outcome.Outcome.{Outcome}
+use Rattle.mc_model.specs.node.Outcome.{Outcome as Came}
+use Rattle.pdu_bodies.specs.declared.pdu.Pdu.{Pdu}
+use Rattle.sessions.specs.declared.response.Outgoing.{Outgoing}
 use Rattle.sessions.specs.declared.pushed.Delivery.{Delivery}
 use Rattle.sessions.specs.declared.pushed.Delivery.TheVariants as deliveries
 use Rattle.sessions.specs.declared.pushed.Pushed.{Pushed}
@@ -19,6 +23,9 @@ use Rattle.script_text.specs.Left.{followed_by, rests}
 use Rattle.script_text.specs.Attempts.{Went, all_given_up, concluded, delivered_so, given_up, unanswered, went}
 use Rattle.script_text.specs.Node.{Node}
 use Rattle.script_text.specs.World.{World}
+use Rattle.esme_site.specs.declared.heeded.Heeded.{Heeded}
+use Rattle.esme_site.specs.declared.heeded.Heeded.TheVariants as heededs
+use Rattle.script_site.specs.Heeding.{went_by}
 use Rattle.script_site.specs.Sites.{Goes, IsGoing, Takes}
 use Rattle.script_site.proofs.Joining.{behind_it}
 use Rattle.script_site.proofs.Refusing.{closed_so, open_so}
@@ -90,3 +97,20 @@ pub none_left : (home : ℕ) (start : Scene) (all : List Pushed) (now : Scene) (
 none_left home start all now rest none left w node going =
     let here = left.each w node going in
     subst (IsGoing home now w) (sym (none_so here.0) ∙ ap (λ (ps : List Pushed). (all_given_up here.0 ps).next) (sym none) ∙ here.2) here.1
+
+-- ---- by what came of what was heard
+
+module _ (home : ℕ) (old new : Scene) (r : Result (Unit {0}) AllocError) (came : Heeded) where
+  pub answer_goes_on : (pushed : Pushed) (pdu : Pdu) (outcome : Option Outcome) → came ≡ heededs.Answer pushed pdu
+      → option_map outcome_kept outcome ≡ told_in pushed.sequence pdu
+      → OnOk r (Goes home (λ n. delivered_so n pushed.delivery (option_map outcome_kept outcome)) old new)
+      → OnOk r (Goes home (λ n. went_by n came) old new)
+  answer_goes_on pushed pdu outcome is told goes =
+      subst (λ (h : Heeded). OnOk r (Goes home (λ n. went_by n h) old new)) (sym is)
+      (subst (λ (o : Option Came). OnOk r (Goes home (λ n. delivered_so n pushed.delivery o) old new)) told goes)
+
+  pub end_goes_on : (outgoing : Outgoing) (abandoned given : List Pushed) → came ≡ heededs.Gone outgoing abandoned → given ≡ abandoned
+      → OnOk r (Goes home (λ n. all_given_up n given) old new) → OnOk r (Goes home (λ n. went_by n came) old new)
+  end_goes_on outgoing abandoned given is same goes =
+      subst (λ (h : Heeded). OnOk r (Goes home (λ n. went_by n h) old new)) (sym is)
+      (subst (λ (ps : List Pushed). OnOk r (Goes home (λ n. all_given_up n ps) old new)) same goes)

@@ -1,21 +1,14 @@
 -- What comes of what was heard on a session.
-use Rattle.std.proofs.Common.{◌≡◌, ℕ, List, [], ◌++◌, Option, Some, None, Result, Ok, Err, refl, sym, ap, subst, ◌∙◌, append_assoc}
-use Rattle.std.proofs.lemmas.List.{append-nil}
+use Rattle.std.proofs.Common.{◌≡◌, ℕ, List, ◌++◌, Option, Some, None, Result, Ok, Err, refl, sym, ap, subst, ◌∙◌}
 use Rattle.std.specs.Prelude.{OnOk, option_map}
 use Rattle.std.specs.declared.alloc.AllocError.{AllocError}
-use Rattle.delivery.specs.Kept.{outcome_kept}
 use Rattle.delivery.specs.Outcomes.{told_in}
-use Rattle.delivery.specs.declared.outcome.Outcome.{Outcome}
 use Rattle.desk.specs.declared.request.Request.{Request}
-use Rattle.mc_model.specs.node.Outcome.{Outcome as Came}
 use Rattle.mc_model.specs.node.Outputs.{Outputs}
-use Rattle.pdu_bodies.specs.declared.pdu.Pdu.{Pdu}
 use Rattle.pdu_tables.specs.StatusCodes.{status_code}
 use Rattle.pdu_tables.specs.declared.status.Status.{Status}
-use Rattle.sessions.specs.Responses.{pdu_of}
 use Rattle.sessions.specs.Session.{Session}
 use Rattle.sessions.specs.declared.response.Outgoing.{Outgoing}
-use Rattle.sessions.specs.declared.pushed.Pushed.{Pushed}
 use Rattle.world.specs.Scenes.{Scene}
 use Rattle.esme_service.specs.Service.{Service}
 use Rattle.esme_service.specs.Sessions.{account_at, waits_at}
@@ -24,7 +17,8 @@ use Rattle.esme_service.specs.declared.heard.Heard.{Heard}
 use Rattle.esme_service.specs.declared.heard.Heard.TheVariants as heards
 use Rattle.script_text.specs.Attempts.{Went, all_given_up, delivered_so}
 use Rattle.script_text.specs.Node.{Node, request_at, step_at}
-use Rattle.script_text.specs.Prints.{Print, gone_line, pdu_line, text_at}
+use Rattle.script_text.specs.Left.{rests}
+use Rattle.script_text.specs.Prints.{Print, text_at}
 use Rattle.script_text.specs.Runner.{Acted, Runner, refusal_prints}
 use Rattle.script_text.specs.Settings.{Settings}
 use Rattle.script_text.specs.World.{World}
@@ -33,9 +27,11 @@ use Rattle.esme_site.specs.declared.asking.Asking.{Asking}
 use Rattle.esme_site.specs.declared.steps.Taken.{Taken}
 use Rattle.script_site.specs.Asking.{TakesRequest}
 use Rattle.script_site.specs.declared.steps.Home.{Home}
-use Rattle.script_site.specs.Heeding.{asked_by, asks_if, heeded}
-use Rattle.script_site.specs.Sites.{Acts, Goes, IsRunning, Placed, Takes}
-use Rattle.script_site.proofs.Acting.{nothing_acts}
+use Rattle.esme_site.specs.Heeding.{HandsIn, Heeds, comes_of, heeded_prints, response_prints}
+use Rattle.esme_site.specs.declared.heeded.Heeded.{Heeded}
+use Rattle.esme_site.specs.declared.heeding.HeardOn.{HeardOn}
+use Rattle.script_site.specs.Heeding.{asked_by, asks_if, heeded, went_by}
+use Rattle.script_site.specs.Sites.{Acts, Goes, IsGoing, IsRunning, Placed, Takes}
 use Rattle.script_site.proofs.Stepping.{request_goes}
 
 -- ---- a request
@@ -95,106 +91,75 @@ asked_so at new left asking refusal has w runner running =
     subst (λ (found : Option (List ℕ)). IsAskedSo home w (asks_if number runner asked request found) number asked refusal
     (record { world = new; site = record at.site { service = left } })) accounts so
 
-module _ (settings : Settings) (number : ℕ) (at : Placed) where
+-- the response of a refusal is what is printed of it
+refused_so : (system_id : List ℕ) (number : ℕ) (asked : Asked) (refusal : Option Outgoing) (status : Option Status)
+    → refusal ≡ option_map (refusal_of asked) status
+    → response_prints system_id number refusal ≡ refusal_prints number asked.requested asked.sequence (option_map status_code status)
+refused_so system_id number asked refusal None is = ap (response_prints system_id number) is
+refused_so system_id number asked refusal (Some status) is = ap (response_prints system_id number) is
+
+module _ (settings : Settings) (number : ℕ) (at : Placed) (left : Service) (mid new : Scene) (before after : List ℕ) where
   abbrev home : ℕ
   home = at.site.node
 
-  -- what is heeded on the session
-  abbrev Heeds : Heard → Placed → List ℕ → List ℕ → Type 0
-  Heeds heard new before after = Acts home (λ runner. heeded settings number runner heard) at new before after
+  abbrev its_home : Home
+  its_home = record { node = at.site.node }
 
-  pub nothing_heeded : (heard : Heard) (text : List ℕ) → heard ≡ heards.Nothing → Heeds heard at text text
-  nothing_heeded heard text is = subst (λ (h : Heard). Heeds h at text text) (sym is) (nothing_acts home at text)
+  abbrev left_so : Placed
+  left_so = record { world = new; site = record at.site { service = left } }
 
-  pub response_heeded : (r : Result (Unit {0}) AllocError) (heard : Heard) (outgoing : Outgoing) (before after : List ℕ) → heard ≡ heards.Response outgoing
-      → OnOk r (after ≡ before ++ pdu_line home number (pdu_of settings.system_id outgoing)) → OnOk r (Heeds heard at before after)
-  response_heeded (Err fault) heard outgoing before after is wrote = tt
-  response_heeded (Ok done) heard outgoing before after is wrote =
-      subst (λ (h : Heard). Heeds h at before after) (sym is)
-      (λ w runner running. record {
-        running = running;
-        text = wrote ∙ ap (λ (t : List ℕ). before ++ t) (sym (append-nil (pdu_line home number (pdu_of settings.system_id outgoing))));
-      })
-
-  -- a request that is refused, and one that is not
-  pub refused_heeded : (r : Result (Unit {0}) AllocError) (heard : Heard) (asked : Asked) (request : Request) (new : Placed)
-      (outgoing : Outgoing) (before after : List ℕ) → heard ≡ heards.Request asked request
-      → AsksSo home number asked request at new (Some outgoing)
-      → OnOk r (after ≡ before ++ pdu_line new.site.node number (pdu_of settings.system_id outgoing)) → OnOk r (Heeds heard new before after)
-  refused_heeded (Err fault) heard asked request new outgoing before after is has wrote = tt
-  refused_heeded (Ok done) heard asked request new outgoing before after is has wrote =
-      subst (λ (h : Heard). Heeds h new before after) (sym is)
-      (λ w runner running.
-      let so = has w runner running in
-      record {
-        running = so.running;
-        text = wrote ∙ ap (λ (n : ℕ). before ++ pdu_line n number (pdu_of settings.system_id outgoing)) so.running.home_is
-            ∙ by_status so.status so.refused ∙ ap (λ (prints : List Print). before ++ text_at home prints) (sym so.prints);
-      })
-    where
-      same_out : (status : Status) → Some outgoing ≡ Some (refusal_of asked status) → outgoing ≡ refusal_of asked status
-      same_out status so = cc
-
-      by_status : (status : Option Status) → Some outgoing ≡ option_map (refusal_of asked) status
-          → before ++ pdu_line home number (pdu_of settings.system_id outgoing)
-          ≡ before ++ text_at home (refusal_prints number asked.requested asked.sequence (option_map status_code status))
-      by_status None so = absurd cc
-      by_status (Some status) so =
-          ap (λ (out : Outgoing). before ++ pdu_line home number (pdu_of settings.system_id out)) (same_out status so)
-          ∙ ap (λ (t : List ℕ). before ++ t) (sym (append-nil (pdu_line home number (pdu_of settings.system_id (refusal_of asked status)))))
-
-  pub waiting_heeded : (heard : Heard) (asked : Asked) (request : Request) (new : Placed) (text : List ℕ) → heard ≡ heards.Request asked request
-      → AsksSo home number asked request at new None → Heeds heard new text text
-  waiting_heeded heard asked request new text is has =
-      subst (λ (h : Heard). Heeds h new text text) (sym is)
-      (λ w runner running.
-      let so = has w runner running in
-      record {
-        running = so.running;
-        text = sym (append-nil text) ∙ by_status so.status so.refused ∙ ap (λ (prints : List Print). text ++ text_at home prints) (sym so.prints);
-      })
-    where
-      by_status : (status : Option Status) → None ≡ option_map (refusal_of asked) status
-          → text ++ text_at home [] ≡ text ++ text_at home (refusal_prints number asked.requested asked.sequence (option_map status_code status))
-      by_status None so = refl
-      by_status (Some status) so = absurd cc
-
-  -- ---- what came of attempts
-
-  -- the node went on by what came of attempts
-  went_on : (act : Node → Went) (new : Scene) (w : World) (runner : Runner) → Goes home act at.world new → IsRunning home at w runner
-      → IsRunning home (record { world = new; site = at.site }) w (record runner { node = (act runner.node).next })
-  went_on act new w runner goes running = record {
+  -- No session changed, and the node went on by what came of attempts.
+  went_on : (act : Node → Went) (w : World) (runner : Runner) → (left ≡ at.site.service) × (mid ≡ at.world) → Goes home act mid new → IsRunning home at w runner
+      → IsRunning home left_so w (record runner { node = (act runner.node).next })
+  went_on act w runner stays goes running = record {
     home_is = running.home_is;
-    going = goes w runner.node running.going;
+    going = goes w runner.node (subst (λ (s : Scene). IsGoing home s w runner.node) (sym stays.1) running.going);
+    sessions = ap (λ (s : Service). s.sessions) stays.0 ∙ running.sessions;
+    streams = running.streams;
+    waiting = ap (λ (s : Service). s.waiting) stays.0 ∙ running.waiting;
+  }
+
+  -- A request went to the node, and nothing came of attempts.
+  request_on : (w : World) (acted : Acted) → Goes home (λ n. rests n) mid new
+      → IsRunning home (record { world = mid; site = record at.site { service = left } }) w acted.next → IsRunning home left_so w acted.next
+  request_on w acted goes running = record {
+    home_is = running.home_is;
+    going = goes w acted.next.node running.going;
     sessions = running.sessions;
     streams = running.streams;
     waiting = running.waiting;
   }
 
-  pub answer_heeded : (r : Result (Unit {0}) AllocError) (heard : Heard) (pushed : Pushed) (pdu : Pdu) (outcome : Option Outcome) (new : Scene)
-      (text : List ℕ) → heard ≡ heards.Answer pushed pdu → option_map outcome_kept outcome ≡ told_in pushed.sequence pdu
-      → OnOk r (Goes home (λ n. delivered_so n pushed.delivery (option_map outcome_kept outcome)) at.world new)
-      → OnOk r (Heeds heard (record { world = new; site = at.site }) text text)
-  answer_heeded (Err fault) heard pushed pdu outcome new text is told goes = tt
-  answer_heeded (Ok done) heard pushed pdu outcome new text is told goes =
-      subst (λ (h : Heard). Heeds h (record { world = new; site = at.site }) text text) (sym is)
-      (λ w runner running. record {
-        running = went_on (λ n. delivered_so n pushed.delivery (told_in pushed.sequence pdu)) new w runner
-            (subst (λ (o : Option Came). Goes home (λ n. delivered_so n pushed.delivery o) at.world new) told goes) running;
-        text = sym (append-nil text);
-      })
+  by_heard : (heard : Heard) (refusal : Option Outgoing) → HandsIn takes_at its_home number heard at.site.service at.world left mid refusal
+      → after ≡ before ++ text_at home (heeded_prints settings.system_id number (comes_of heard refusal))
+      → Goes home (λ n. went_by n (comes_of heard refusal)) mid new
+      → Acts home (λ runner. heeded settings number runner heard) at left_so before after
+  by_heard heards.Nothing refusal stays text goes = λ w runner running.
+      record { running = went_on (λ n. rests n) w runner stays goes running; text = text }
+  by_heard (heards.Response outgoing) refusal stays text goes = λ w runner running.
+      record { running = went_on (λ n. rests n) w runner stays goes running; text = text }
+  by_heard (heards.Request asked request) refusal has text goes = λ w runner running.
+      let so = asked_so at mid left (record { number = number; asked = asked; request = request }) refusal has w runner running in
+      let acted = asks_if number runner asked request (account_at runner.sessions number) in
+      record {
+        running = request_on w acted goes so.running;
+        text = text ∙ ap (λ (prints : List Print). before ++ text_at home prints)
+            (refused_so settings.system_id number asked refusal so.status so.refused ∙ sym so.prints);
+      }
+  by_heard (heards.Answer pushed pdu) refusal stays text goes = λ w runner running. record {
+    running = went_on (λ n. delivered_so n pushed.delivery (told_in pushed.sequence pdu)) w runner stays goes running;
+    text = text;
+  }
+  by_heard (heards.Gone outgoing abandoned) refusal stays text goes = λ w runner running.
+      record { running = went_on (λ n. all_given_up n abandoned) w runner stays goes running; text = text }
 
-  pub gone_heeded : (r : Result (Unit {0}) AllocError) (heard : Heard) (outgoing : Outgoing) (abandoned : List Pushed) (new : Scene)
-      (before text after : List ℕ) → heard ≡ heards.Gone outgoing abandoned → Goes home (λ n. all_given_up n abandoned) at.world new
-      → text ≡ before ++ pdu_line home number (pdu_of settings.system_id outgoing) → OnOk r (after ≡ text ++ gone_line home number)
-      → OnOk r (Heeds heard (record { world = new; site = at.site }) before after)
-  gone_heeded (Err fault) heard outgoing abandoned new before text after is goes wrote told = tt
-  gone_heeded (Ok done) heard outgoing abandoned new before text after is goes wrote told =
-      let line = pdu_line home number (pdu_of settings.system_id outgoing) in
-      subst (λ (h : Heard). Heeds h (record { world = new; site = at.site }) before after) (sym is)
-      (λ w runner running. record {
-        running = went_on (λ n. all_given_up n abandoned) new w runner goes running;
-        text = told ∙ ap (λ (t : List ℕ). t ++ gone_line home number) wrote ∙ append_assoc before line (gone_line home number)
-            ∙ ap (λ (t : List ℕ). before ++ (line ++ t)) (sym (append-nil (gone_line home number)));
-      })
+  -- It was heeded, and what came of attempts was concluded.
+  pub heeded_acts : (r : Result (Unit {0}) AllocError) (heard : Heard) (came : Heeded)
+      → Heeds takes_at its_home (record { number = number; heard = heard }) at.site.service at.world left mid came
+      → after ≡ before ++ text_at home (heeded_prints settings.system_id number came) → OnOk r (Goes home (λ n. went_by n came) mid new)
+      → OnOk r (Acts home (λ runner. heeded settings number runner heard) at left_so before after)
+  heeded_acts (Err fault) heard came heeds text goes = tt
+  heeded_acts (Ok done) heard came heeds text goes =
+      by_heard heard heeds.refusal heeds.handed
+      (text ∙ ap (λ (h : Heeded). before ++ text_at home (heeded_prints settings.system_id number h)) heeds.comes)
+      (subst (λ (h : Heeded). Goes home (λ n. went_by n h) mid new) heeds.comes goes)

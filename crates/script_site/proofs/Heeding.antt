@@ -1,25 +1,22 @@
 -- What was heard on a session goes to the node, and out, and what waits for its account goes out.
-use Rattle.std.proofs.Common.{◌≡◌, ℕ, suc, ◌==◌, Bool, true, false, List, [], ◌∷◌, length, Option, Some, None, Result, Ok, Err}
-use Rattle.std.proofs.Common.{refl, sym, ap, ◌∙◌, subst, arith}
-use Rattle.std.proofs.lemmas.Bool.{eqb-true}
-use Rattle.std.specs.Prelude.{OnOk, is_none, not}
+use Rattle.std.proofs.Common.{◌≡◌, ℕ, true, false, List, Option, Some, None, Result, Ok, Err, refl, sym, ap, ◌∙◌, subst}
+use Rattle.std.specs.Prelude.{OnOk, is_none}
 use Rattle.std.specs.declared.alloc.AllocError.{AllocError}
-use Rattle.mc_model.specs.node.Outputs.{Receipt}
 use Rattle.sessions.specs.Session.{Session}
 use Rattle.esme_service.specs.Hearing.{Goes, Heeds, ends_at, heeds}
 use Rattle.esme_service.specs.Service.{Service}
 use Rattle.esme_service.specs.Sessions.{account_at}
 use Rattle.esme_service.specs.declared.heard.Heard.{Heard}
 use Rattle.world.specs.Scenes.{clock_in}
-use Rattle.script_text.specs.Left.{rests}
 use Rattle.script_text.specs.Settings.{Settings}
 use Rattle.script_text.specs.Pushes.{session_at}
-use Rattle.script_text.specs.Receipts.{Mail, goes_out_up_to, posted_for, posted_for_any}
-use Rattle.script_text.specs.Runner.{Acted, Runner, ends, mail_of, on_frame, posts_for, with_posted}
+use Rattle.script_text.specs.Receipts.{posted_for_any}
+use Rattle.script_text.specs.Runner.{Acted, Runner, ends, mail_of, on_frame, posts_for}
+use Rattle.esme_site.specs.Puts.{posted_on}
 use Rattle.script_site.specs.Heeding.{heeded, then_posts}
-use Rattle.script_site.specs.Posting.{IsPosted, mail_in}
+use Rattle.script_site.specs.Posting.{IsPosted}
 use Rattle.script_site.specs.Sites.{Acts, HasActed, Placed}
-use Rattle.script_site.proofs.Acting.{acts_as, clock_so, has_acted, like, mail_is, nothing_acts, posted_acts, served, then_acts, with_service}
+use Rattle.script_site.proofs.Acting.{acts_as, clock_so, like, mail_is, posted_acts, served, then_acts, with_service}
 use Rattle.script_site.proofs.Serving.{end_so, frame_so}
 
 -- what is done once something was heard, and what waits goes out
@@ -86,47 +83,13 @@ module _ (settings : Settings) (number : ℕ) (at : Placed) (left : Service) (he
         (subst (λ (sessions : List (ℕ × Session)). Goes number (ends_at sessions number)) same_sessions goes))))
         (heeded_then_posted r all mid new before text after same left_is did posted)
 
--- ---- receipts that wait
-
-none_there : (waiting : List Receipt) → not (length waiting == 0) ≡ false → waiting ≡ []
-none_there [] none = refl
-none_there (receipt ∷ waiting) none = absurd (by_test (suc (length waiting) == 0) refl none)
-  where
-    by_test : (b : Bool) → (suc (length waiting) == 0) ≡ b → not b ≡ false → ⊥
-    by_test true is some = let same : suc (length waiting) ≡ 0 = eqb-true _ _ is in omega (arith, same)
-    by_test false is some = cc
-
-none_posted : (now : ℕ) (mail : Mail) (account : Option (List ℕ)) → mail.waiting ≡ [] → posted_for_any now mail account ≡ rests mail
-unfolding goes_out_up_to
-none_posted now mail None none = refl
-none_posted now mail (Some account) none = ap (λ (waiting : List Receipt). goes_out_up_to (length waiting) now account mail) none
-
-pub idle_acts : (at : Placed) (number : ℕ) (has : Bool) (text : List ℕ) → has ≡ not (length at.site.service.waiting == 0) → has ≡ false
-    → Acts at.site.node (λ runner. posts_for runner (account_at runner.sessions number)) at at text text
-idle_acts at number has text is idle w runner running =
-    let account = account_at runner.sessions number in
-    let none = ap (λ (waiting : List Receipt). not (length waiting == 0)) running.waiting in
-    let posted = none_posted runner.node.kept.clock (mail_of runner) account (none_there runner.waiting (sym none ∙ sym is ∙ idle)) in
-    has_acted at.site.node w (rests runner) (posts_for runner account) at text text
-    (like (sym (ap (with_posted runner) posted))) (nothing_acts at.site.node at text w runner running)
-
 -- what waits for the account of a session went out
-pub posted_on : (r : Result (Unit {0}) AllocError) (at : Placed) (last : Service) (number now : ℕ) (account : List ℕ) (before after : List ℕ)
-    → Some account ≡ account_at at.site.service.sessions number → now ≡ clock_in at.world at.site.node
-    → OnOk r (IsPosted at.site.node (posted_for now (mail_in at.site.service) account) last before after)
+pub posts_on : (r : Result (Unit {0}) AllocError) (at : Placed) (last : Service) (number now : ℕ) (before after : List ℕ)
+    → now ≡ clock_in at.world at.site.node
+    → OnOk r (IsPosted at.site.node (posted_on now at.site.service number) last before after)
     → OnOk r (Acts at.site.node (λ runner. posts_for runner (account_at runner.sessions number)) at (with_service at last) before after)
-posted_on r at last number now account before after bound clock posted =
-    posted_acts r at last (posted_for now (mail_in at.site.service) account)
+posts_on r at last number now before after clock posted =
+    posted_acts r at last (posted_on now at.site.service number)
     (λ runner. posted_for_any runner.node.kept.clock (mail_of runner) (account_at runner.sessions number)) before after
-    (λ w runner running.
-    let accounts : Some account ≡ account_at runner.sessions number = bound ∙ ap (λ (sessions : List (ℕ × Session)). account_at sessions number) running.sessions in
-    λ i. posted_for_any ((clock ∙ clock_so at.site.node at w runner running) i) (mail_is at.site.node at w runner running i) (accounts i)) posted
-
--- and if nobody is bound, nothing does
-pub unbound_acts : (at : Placed) (number : ℕ) (text : List ℕ) → None ≡ account_at at.site.service.sessions number
-    → Acts at.site.node (λ runner. posts_for runner (account_at runner.sessions number)) at at text text
-unbound_acts at number text unbound w runner running =
-    let nobody : None ≡ account_at runner.sessions number =
-    unbound ∙ ap (λ (sessions : List (ℕ × Session)). account_at sessions number) running.sessions in
-    has_acted at.site.node w (rests runner) (posts_for runner (account_at runner.sessions number)) at text text
-    (like (ap (posts_for runner) nobody)) (nothing_acts at.site.node at text w runner running)
+    (λ w runner running. λ i. posted_for_any ((clock ∙ clock_so at.site.node at w runner running) i) (mail_is at.site.node at w runner running i)
+    (account_at (running.sessions i) number)) posted

@@ -9,10 +9,12 @@ use Rattle.esme_service.specs.Sessions.{account_at, waits_at}
 use Rattle.esme_service.specs.declared.heard.Asked.{Asked}
 use Rattle.esme_service.specs.declared.heard.Heard.{Heard}
 use Rattle.esme_service.specs.declared.heard.Heard.TheVariants as heards
+use Rattle.esme_site.specs.declared.heeded.Heeded.{Heeded}
+use Rattle.esme_site.specs.declared.heeded.Heeded.TheVariants as heededs
 use Rattle.script_text.specs.Left.{followed_by, rests}
 use Rattle.script_text.specs.Settings.{Settings}
 use Rattle.script_text.specs.Attempts.{Went, all_given_up, delivered_so}
-use Rattle.script_text.specs.Node.{request_at, step_at, with_step}
+use Rattle.script_text.specs.Node.{Node, request_at, step_at, with_step}
 use Rattle.script_text.specs.Prints.{Print, AtOnce, Gone}
 use Rattle.script_text.specs.Runner.{Acted, Runner, posts_for, refusal_prints}
 
@@ -45,6 +47,14 @@ heeded settings number runner (heards.Request asked request) = asks_if number ru
 heeded settings number runner (heards.Answer pushed pdu) = by_went runner (delivered_so runner.node pushed.delivery (told_in pushed.sequence pdu)) []
 heeded settings number runner (heards.Gone outgoing abandoned) =
     by_went runner (all_given_up runner.node abandoned) (AtOnce number (pdu_of settings.system_id outgoing) ∷ Gone number ∷ [])
+
+-- what comes of attempts by what came of what was heard
+abbrev pub went_by : Node → Heeded → Went
+went_by node heededs.Nothing = rests node
+went_by node (heededs.Response outgoing) = rests node
+went_by node (heededs.Request asked refusal) = rests node
+went_by node (heededs.Answer pushed pdu) = delivered_so node pushed.delivery (told_in pushed.sequence pdu)
+went_by node (heededs.Gone outgoing abandoned) = all_given_up node abandoned
 
 -- and then what waits for the account of that session goes out
 abbrev pub then_posts : ℕ → Acted → Acted

@@ -3,10 +3,13 @@
 ghost use Rattle.std.specs.Prelude.{◌≡◌};
 ghost use Rattle.std.proofs.Common.{refl, sym, ◌∙◌};
 
-use crate::output::write_sending;
+use crate::output::{write_gone, write_outgoing, write_sending};
+use crate::session_place::SessionPlace;
 use esme_service::Sending;
 use esme_site::Outlet;
 use mc_types::NodeNo;
+use pdu_codec::SystemId;
+use sessions::Outgoing;
 use std::alloc::AllocError;
 use std::mem;
 
@@ -36,6 +39,16 @@ impl Lines {
     {
         *text = self.text;
     }
+
+    /// Where the session of a number is.
+    fn place(&self, number: u8) -> SessionPlace
+        ensures { result ≡ record { node = self.now.node; number = number } }
+    {
+        SessionPlace {
+            node: self.node,
+            number,
+        }
+    }
 }
 
 impl Outlet for Lines {
@@ -46,6 +59,23 @@ impl Outlet for Lines {
     fn put(&mut self, sending: &Sending) -> Result<(), AllocError> {
         let mut line = Vec::new(*self.text.allocator());
         write_sending(&mut line, self.node, sending)?;
+        self.text.extend_from_slice(&line)
+    }
+
+    fn respond(
+        &mut self,
+        system_id: &SystemId,
+        number: u8,
+        outgoing: Outgoing,
+    ) -> Result<(), AllocError> {
+        let mut line = Vec::new(*self.text.allocator());
+        write_outgoing(&mut line, self.place(number), system_id, outgoing)?;
+        self.text.extend_from_slice(&line)
+    }
+
+    fn end(&mut self, number: u8) -> Result<(), AllocError> {
+        let mut line = Vec::new(*self.text.allocator());
+        write_gone(&mut line, self.place(number))?;
         self.text.extend_from_slice(&line)
     }
 

@@ -6,19 +6,18 @@ ghost use Rattle.mc_model.specs.synod.Packet.{slot_of};
 ghost use Rattle.delivery.specs.Deliveries.{EndsInAttempt};
 ghost use Rattle.script_text.specs.Settings.{settings_of};
 
-use crate::output::{write_all_gone, write_gone, write_outgoing, write_sending, write_ungranted};
-use crate::session_place::SessionPlace;
-use crate::steps::{Granting, Home, conclude, conclude_by, give_up, grant, take};
+use crate::lines::Lines;
+use crate::output::{write_all_gone, write_sending, write_ungranted};
+use crate::steps::{Granting, Home, conclude, conclude_heeded, give_up, grant, take};
 use crate::streams::Streams;
-use crate::telling::{post_all, post_for, post_for_all, write_replies};
+use crate::telling::{post_all, post_for_all, post_on, write_replies};
 use config::Config;
-use delivery::{Outcome, outcome_of};
+use delivery::Outcome;
 use esme_service::{Heard, Sending, Service};
-use esme_site::{Asking, ask};
+use esme_site::{Centre, HeardOn, heed};
 use fate_chain::Chain;
 use mc_types::{Moment, MsgId, NodeNo, Slot};
 use pdu_frames::Framer;
-use sessions::Outgoing;
 use std::alloc::{AllocError, Global};
 use world::{Given, Reach, Step, World};
 
@@ -145,45 +144,23 @@ impl Site {
         ensures { OnOk result (Acts self.old.node (λ runner. heeded (settings_of config.now) number runner heard)
             (record { world = world.old; site = self.old }) (record { world = world.new; site = self.new }) text.old.items text.new.items) }
     {
-        match heard {
-            Heard::Nothing => Ok(()),
-            Heard::Response(outgoing) => {
-                write_outgoing(text, self.place(number), &config.system_id, outgoing)
-            }
-            Heard::Request(asked, request) => {
-                let asking = Asking {
-                    number,
-                    asked,
-                    request,
-                };
-                match ask(&mut self.service, world, &Home { node: self.node }, asking) {
-                    Ok(Some(refusal)) => {
-                        write_outgoing(text, self.place(number), &config.system_id, refusal)
-                    }
-                    Ok(None) => Ok(()),
-                    Err(_) => Err(AllocError),
-                }
-            }
-            Heard::Answer(pushed, pdu) => {
-                let outcome = outcome_of(pushed.sequence, pdu.pdu());
-                drop(pdu);
-                conclude_by(world, self.node, pushed.delivery, outcome)
-            }
-            Heard::Gone(outgoing, abandoned) => {
-                give_up(world, self.node, abandoned.as_slice())?;
-                write_outgoing(text, self.place(number), &config.system_id, outgoing)?;
-                write_gone(text, self.place(number))
-            }
-        }
-    }
-
-    /// Where the session of a number is.
-    fn place(&self, number: u8) -> SessionPlace
-        ensures { result ≡ record { node = self.now.node; number = number } }
-    {
-        SessionPlace {
-            node: self.node,
-            number,
+        let home = Home { node: self.node };
+        let centre = Centre {
+            system_id: &config.system_id,
+            at: &home,
+        };
+        let mut lines = Lines::behind(text, self.node);
+        let heeded = heed(
+            &mut self.service,
+            world,
+            &mut lines,
+            &centre,
+            HeardOn { number, heard },
+        );
+        lines.put_back(text);
+        match heeded {
+            Ok(heeded) => conclude_heeded(world, self.node, heeded),
+            Err(_) => Err(AllocError),
         }
     }
 
@@ -192,15 +169,8 @@ impl Site {
         ensures { OnOk result (Acts self.old.node (λ runner. posts_for runner (account_at runner.sessions number))
             (record { world = world.now; site = self.old }) (record { world = world.now; site = self.new }) text.old.items text.new.items) }
     {
-        if !self.service.has_receipts() {
-            return Ok(());
-        }
-        let Some(account) = self.service.account(number) else {
-            return Ok(());
-        };
-        let account = account.copy()?;
         let now = world.clock(self.node);
-        post_for(text, self.node, &mut self.service, now, &account)
+        post_on(text, self.node, &mut self.service, now, number)
     }
 
     /// A moment has come: adds the lines of what requests are answered that waited too long, and gives up each deliver_sm that waits for its

@@ -3,12 +3,13 @@
 ghost use Rattle.std.specs.Prelude.{◌≡◌, length, option_map, drop, IfOk, OnErr, OnOk};
 ghost use Rattle.delivery.specs.Kept.{outcome_kept};
 ghost use Rattle.script_text.specs.Attempts.{all_given_up, concluded, delivered_so};
+ghost use Rattle.script_site.specs.Heeding.{went_by};
 ghost use Rattle.script_site.specs.Sites.{Goes, StandsStill, Takes};
 ghost use Rattle.script_site.specs.Grantings.{IsGranting};
 
-use delivery::Outcome;
+use delivery::{Outcome, outcome_of};
 use desk::Request;
-use esme_site::{Steps, Taken};
+use esme_site::{Heeded, Steps, Taken};
 use fate_chain::Chain;
 use mc_types::{MsgId, NodeNo, Slot};
 use pdu_codec::SystemId;
@@ -131,6 +132,26 @@ pub(crate) fn conclude_by(
         return Ok(());
     };
     conclude(world, node, slot, outcome)
+}
+
+/// What came of what was heard on a session is concluded, if it came of attempts: an answer is the outcome of one, and of those of a session that is gone nothing
+/// comes any more. After an `Err`, which is want of memory, some of them are concluded.
+pub(crate) fn conclude_heeded(
+    world: &mut World,
+    node: NodeNo,
+    heeded: Heeded,
+) -> Result<(), AllocError>
+    ensures { OnOk result (Goes node (λ n. went_by n heeded) world.old world.new) }
+{
+    match heeded {
+        Heeded::Nothing | Heeded::Response(_) | Heeded::Request(..) => Ok(()),
+        Heeded::Answer(pushed, pdu) => {
+            let outcome = outcome_of(pushed.sequence, pdu.pdu());
+            drop(pdu);
+            conclude_by(world, node, pushed.delivery, outcome)
+        }
+        Heeded::Gone(_, abandoned) => give_up(world, node, abandoned.as_slice()),
+    }
 }
 
 /// Nobody answers these pushed requests any more. After an `Err`, which is want of memory, some of them are given up.

@@ -2,8 +2,9 @@
 
 ghost use Rattle.std.specs.Prelude.{◌≡◌, map, OnOk};
 ghost use Rattle.waiting_requests.specs.Replying.{reply_given};
-ghost use Rattle.script_text.specs.Receipts.{all_posted, posted_for, posted_for_all};
+ghost use Rattle.script_text.specs.Receipts.{all_posted, posted_for_all};
 ghost use Rattle.script_text.specs.Runner.{told};
+ghost use Rattle.esme_site.specs.Puts.{posted_on};
 ghost use Rattle.script_site.specs.Posting.{IsPosted, mail_in};
 ghost use Rattle.script_site.specs.Told.{AreTold};
 ghost use Rattle.node_model.specs.Reported.{receipt_of};
@@ -32,18 +33,18 @@ pub(crate) fn write_replies(
     replied
 }
 
-/// Adds the lines of the receipts that wait for an account and go out now, the oldest first, as far as its sessions take them.
-pub(crate) fn post_for(
+/// Adds the lines of the receipts that wait for the account of a session and go out now, the oldest first, as far as its sessions take them.
+pub(crate) fn post_on(
     text: &mut Vec<u8>,
     node: NodeNo,
     service: &mut Service,
     now: Moment,
-    account: &SystemId,
+    number: u8,
 ) -> Result<(), AllocError>
-    ensures { OnOk result (IsPosted node (posted_for now (mail_in service.old) account.now) service.new text.old.items text.new.items) }
+    ensures { OnOk result (IsPosted node (posted_on now service.old number) service.new text.old.items text.new.items) }
 {
     let mut lines = Lines::behind(text, node);
-    let posted = esme_site::post_for(service, &mut lines, now, account);
+    let posted = esme_site::post_on(service, &mut lines, now, number);
     lines.put_back(text);
     posted
 }

@@ -1,7 +1,8 @@
 -- What is put for the sessions of a node, frame by frame (own).
-use Rattle.std.specs.Prelude.{◌≡◌, ℕ, List, [], ◌∷◌, ◌++◌, Option, Some, None}
-use Rattle.std.proofs.Common.{ap, sym, ◌∙◌, append_assoc}
+use Rattle.std.specs.Prelude.{◌≡◌, ℕ, Bool, true, false, List, [], ◌∷◌, ◌++◌, filter, Option, Some, None}
+use Rattle.std.proofs.Common.{ap, sym, ◌∙◌, append_assoc, subst}
 use Rattle.std.proofs.lemmas.List.{append-nil}
+use Rattle.std.proofs.lemmas.List.Elements.{filter-append}
 use Rattle.pdu_codec.specs.Pdu.{octets_of}
 use Rattle.connection_parts.specs.declared.frame.Frame.{Frame}
 use Rattle.script_text.specs.Prints.{Print, AtOnce, Late, Delivers, Reports, Gone, Declined, Ungranted, report_pdu}
@@ -28,16 +29,21 @@ AreFramesOf [] (print ∷ prints) = ⊥
 AreFramesOf (frame ∷ frames) [] = ⊥
 AreFramesOf (frame ∷ frames) (print ∷ prints) = IsFrameOf frame print × AreFramesOf frames prints
 
+-- that a session is gone has no frame
+abbrev pub has_frame : Print → Bool
+has_frame (Gone number) = false
+has_frame other = true
+
 -- the frame, if there is one
 abbrev pub those : Option Frame → List Frame
 those None = []
 those (Some frame) = frame ∷ []
 
--- They were put behind the others.
+-- Those that have a frame were put behind the others.
 pub record Puts (before : List Frame) (prints : List Print) (after : List Frame) : Type 0 where
   pub more : List Frame
   pub behind : after ≡ before ++ more
-  pub are : AreFramesOf more prints
+  pub are : AreFramesOf more (filter has_frame prints)
 
 pub puts_none : (at : List Frame) → Puts at [] at
 unfolding AreFramesOf
@@ -56,5 +62,6 @@ pub puts_both : (before between after : List Frame) (prints others : List Print)
 puts_both before between after prints others one two = record {
   more = one.more ++ two.more;
   behind = two.behind ∙ ap (λ (fs : List Frame). fs ++ two.more) one.behind ∙ append_assoc before one.more two.more;
-  are = are_both one.more prints two.more others one.are two.are;
+  are = subst (AreFramesOf (one.more ++ two.more)) (sym (filter-append has_frame prints others))
+      (are_both one.more (filter has_frame prints) two.more (filter has_frame others) one.are two.are);
 }

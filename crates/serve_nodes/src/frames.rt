@@ -6,6 +6,8 @@ ghost use Rattle.serve_nodes.specs.Frames.{those};
 use connection_parts::Frame;
 use esme_service::Sending;
 use esme_site::Outlet;
+use pdu_codec::SystemId;
+use sessions::Outgoing;
 use std::alloc::{AllocError, Global};
 use waiting_requests::{Answer, Reply};
 
@@ -15,7 +17,7 @@ const NUMBERS: usize = 256;
 /// What is put for the sessions of a node by one call, before it goes onto their connections: frames, the oldest first; whether some sessions are lost, since there
 /// was no memory for what they were to get, and which; and how many receipts and final states were put.
 #[derive(Drop)]
-pub(crate) struct Frames {
+pub struct Frames {
     alloc: Global,
     pub(crate) frames: Vec<Frame>,
     pub(crate) has_lost: bool,
@@ -74,6 +76,21 @@ impl Outlet for Frames {
         let frame = Frame::of_sending(self.alloc, sending)?;
         self.push(frame)?;
         self.count(sending);
+        Ok(())
+    }
+
+    fn respond(
+        &mut self,
+        system_id: &SystemId,
+        number: u8,
+        outgoing: Outgoing,
+    ) -> Result<(), AllocError> {
+        let frame = Frame::of_response(self.alloc, system_id, number, outgoing)?;
+        self.push(Some(frame))
+    }
+
+    /// No frame tells it: its connection ends.
+    fn end(&mut self, _number: u8) -> Result<(), AllocError> {
         Ok(())
     }
 

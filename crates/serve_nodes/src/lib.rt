@@ -21,6 +21,7 @@ pub use beat::Beat;
 pub use course::{Course, Need};
 pub use doors::Doors;
 pub use ending::{End, Ending};
+pub use frames::Frames;
 pub use house::{Counters, House};
 pub use opening::house_of;
 pub use pace::Pace;

@@ -1,6 +1,6 @@
 //! What stands at a node of a server: the service of its ESMEs, and their connections.
 
-ghost use Rattle.std.specs.Prelude.{◌≡◌, map, max, None, false, OnOk};
+ghost use Rattle.std.specs.Prelude.{◌≡◌, [], map, max, None, false, OnOk};
 ghost use Rattle.node_model.specs.Reported.{receipt_of};
 ghost use Rattle.waiting_requests.specs.Replying.{reply_given};
 ghost use Rattle.esme_service.specs.Sessions.{put_at, session_in, without_session};
@@ -11,12 +11,12 @@ use crate::carriage::Carriage;
 use crate::frames::Frames;
 use connection_parts::{Frame, Job, Tally};
 use esme_service::{HeardPdu, Service};
-use esme_site::{post_for, post_for_all, reply_all, tell};
+use esme_site::{post_for_all, reply_all, tell};
 use mc_types::{Moment, MsgId, Slot};
 use node_core::{MayBegin, MessageIds, Outputs, Reach};
 use pdu_codec::SystemId;
 use serve_sessions::{Arrival, Berth, Connection, Mark, Reason, Whom};
-use sessions::{Delivery, Outgoing, Pushed, WINDOW};
+use sessions::{Delivery, Pushed, WINDOW};
 use std::alloc::{AllocError, Global};
 use std::collections::BTreeMap;
 use std::rt::Clock;
@@ -150,23 +150,15 @@ impl Site {
         }
     }
 
-    /// The response to a PDU of a session goes out; the centre has this system_id. An `Err` is want of memory.
-    pub fn respond<R: Wait>(
-        &self,
-        rt: &R,
-        system_id: &SystemId,
-        number: u8,
-        outgoing: Outgoing,
-    ) -> Result<(), AllocError> {
-        self.post(
-            rt,
-            Frame::of_response(self.alloc, system_id, number, outgoing)?,
-        );
-        Ok(())
+    /// What is put for its sessions from now on.
+    pub fn outlet(&self) -> Frames
+        ensures { result.frames.items ≡ [] }
+    {
+        Frames::none(self.alloc)
     }
 
     /// What was put is counted, goes onto the connections of its sessions, and those are lost for which there was no memory.
-    fn post_all<R: Wait>(&mut self, rt: &R, frames: Frames)
+    pub fn post_all<R: Wait>(&mut self, rt: &R, frames: Frames)
         ensures { self.new.service ≡ self.old.service }
     {
         self.tally.receipts = self.tally.receipts.saturating_add(frames.receipts);
@@ -205,7 +197,7 @@ impl Site {
         ensures { OnOk result (mail_in self.new.service ≡
             (given_out self.old.clock self.old.service (map reply_given outputs.now.replies.items) (map receipt_of outputs.now.receipts.items)).next) }
     {
-        let mut frames = Frames::none(self.alloc);
+        let mut frames = self.outlet();
         let told = self.put_told(&mut frames, outputs);
         self.post_all(rt, frames);
         told
@@ -230,29 +222,14 @@ impl Site {
 
     /// A reply goes out on the session that holds its ticket. That is lost if there is no memory for it.
     fn reply<R: Wait>(&mut self, rt: &R, reply: Reply) {
-        let mut frames = Frames::none(self.alloc);
+        let mut frames = self.outlet();
         let _ = reply_all(&mut self.service, &mut frames, &[reply]);
         self.post_all(rt, frames);
     }
 
-    /// The receipts that wait for the account of a session go out. An `Err` is want of memory.
-    pub fn post_on<R: Wait>(&mut self, rt: &R, number: u8) -> Result<(), AllocError> {
-        if !self.service.has_receipts() {
-            return Ok(());
-        }
-        let Some(account) = self.service.account(number) else {
-            return Ok(());
-        };
-        let account = account.copy()?;
-        let mut frames = Frames::none(self.alloc);
-        let posted = post_for(&mut self.service, &mut frames, self.clock, &account);
-        self.post_all(rt, frames);
-        posted
-    }
-
     /// The receipts that wait for these accounts go out. An `Err` is want of memory.
     fn post_for_all<R: Wait>(&mut self, rt: &R, accounts: &[SystemId]) -> Result<(), AllocError> {
-        let mut frames = Frames::none(self.alloc);
+        let mut frames = self.outlet();
         let posted = post_for_all(&mut self.service, &mut frames, self.clock, accounts);
         self.post_all(rt, frames);
         posted

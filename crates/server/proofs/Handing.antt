@@ -1,63 +1,150 @@
--- What a thread that serves a session hands in.
-use Rattle.std.proofs.Common.{◌≡◌, ℕ, List, Option, Result, sym, ap, ◌∙◌, subst, inl, inr}
-use Rattle.std.specs.Prelude.{IfOk}
+-- What a thread that serves a session hands in, and what it puts.
+use Rattle.std.proofs.Common.{◌≡◌, ℕ, List, [], ◌++◌, Option, Some, None, Result, Ok, Err, sym, ap, ◌∙◌, subst, inl, inr}
+use Rattle.std.specs.Prelude.{IfOk, OnErr, OnOk}
+use Rattle.std.specs.declared.alloc.AllocError.{AllocError}
 use Rattle.desk.specs.declared.request.Request.{Request}
+use Rattle.pdu_tables.specs.declared.status.Status.TheVariants.{SystemError}
 use Rattle.sessions.specs.declared.response.Outgoing.{Outgoing}
+use Rattle.esme_service.specs.Hearing.{heeds}
 use Rattle.esme_service.specs.Service.{Service}
+use Rattle.esme_service.specs.Settings.{Settings}
 use Rattle.esme_service.specs.declared.heard.Heard.{Heard}
 use Rattle.esme_service.specs.declared.heard.Heard.TheVariants as heards
-use Rattle.esme_site.specs.Asking.{HasAsked, HasNotAsked}
+use Rattle.esme_site.specs.Asking.{HasNotAsked, refusal_of}
+use Rattle.esme_site.specs.Heeding.{HandsIn as Hands, Heeds, HeedsInPart, HeedsNot, heeded_prints}
+use Rattle.esme_site.specs.Puts.{mail_in, posted_on}
 use Rattle.esme_site.specs.declared.asking.AskFault.{AskFault}
 use Rattle.esme_site.specs.declared.asking.AskFault.TheVariants as faults
-use Rattle.esme_site.specs.declared.asking.Asking.{Asking}
+use Rattle.esme_site.specs.declared.heeded.Heeded.{Heeded}
+use Rattle.esme_site.specs.declared.heeded.Heeded.TheVariants as heededs
+use Rattle.esme_site.specs.declared.heeding.HeardOn.{HeardOn}
+use Rattle.esme_site.specs.declared.heeding.Unasked.{Unasked}
 use Rattle.esme_site.specs.declared.steps.Taken.{Taken}
+use Rattle.esme_site.proofs.Ending.{none_begun}
 use Rattle.node_threads.specs.Slips.{Seated, Slipped}
+use Rattle.serve_nodes.specs.Frames.{Puts, puts_both}
+use Rattle.serve_nodes.specs.declared.frames.Frames.{Frames}
 use Rattle.serve_sessions.specs.declared.notice.Notice.{Notice}
-use Rattle.server.specs.Handing.{AsksNode, HandsIn, HandsInRequest, Heeds, IsHandedIn, IsToldIf}
-use Rattle.server.specs.declared.hearing.Heeded.{Heeded}
-use Rattle.server.specs.declared.trouble.Trouble.{Trouble}
+use Rattle.server.specs.Handing.{Comes, ComesInPart, HandsIn, HandsInRequest, IsToldBy, RefusesUnasked, Serves, Standing, standing}
 
--- a step was taken from a seat, at this node
-pub asked_at : {At : Type 0} (took : Seated → At → List ℕ → Request → Taken → Seated → Type 0) (at : At) (node : ℕ)
-    → ((from : Seated) (account : List ℕ) (request : Request) (taken : Taken) (to : Seated) → took from at account request taken to
-    → HandsIn from.slips node account request taken to.slips)
-    → (asking : Asking) (service left last : Service) (before after : Seated) (refusal : Option Outgoing) → last ≡ left
-    → HasAsked took at asking service before left after refusal → IsHandedIn node asking service before.slips refusal last after.slips
-asked_at took at node hands asking service left last before after refusal same has = inl (record {
-  account = has.account;
-  its = has.its;
-  taken = has.taken;
-  took_it = hands before has.account asking.request has.taken after has.took_it;
-  waits = same ∙ has.waits;
-  refuses = has.refuses;
-})
+-- a slip of a step in which a request came
+abbrev slip_of : List Slipped → ℕ → List ℕ → Request → Taken → List Slipped → Type 0
+slip_of from at account request taken to = HandsIn from at account request taken to
 
--- or none was
-pub no_slip : {F : Type 0} (fault : AskFault F) (before after : Seated)
+-- ---- over a seat
+
+module _ {At : Type 0} (took : Seated → At → List ℕ → Request → Taken → Seated → Type 0) (at : At) (node : ℕ)
+    (hands : (from : Seated) (account : List ℕ) (request : Request) (taken : Taken) (to : Seated) → took from at account request taken to
+    → HandsIn from.slips node account request taken to.slips) where
+  handed_at : (number : ℕ) (heard : Heard) (service left : Service) (before after : Seated) (refusal : Option Outgoing)
+      → Hands took at number heard service before left after refusal → Hands slip_of node number heard service before.slips left after.slips refusal
+  handed_at number (heards.Request asked request) service left before after refusal has = record {
+    account = has.account;
+    its = has.its;
+    taken = has.taken;
+    took_it = hands before has.account request has.taken after has.took_it;
+    waits = has.waits;
+    refuses = has.refuses;
+  }
+  handed_at number heards.Nothing service left before after refusal stays = (stays.0, ap (λ (s : Seated). s.slips) stays.1)
+  handed_at number (heards.Response outgoing) service left before after refusal stays = (stays.0, ap (λ (s : Seated). s.slips) stays.1)
+  handed_at number (heards.Answer pushed pdu) service left before after refusal stays = (stays.0, ap (λ (s : Seated). s.slips) stays.1)
+  handed_at number (heards.Gone outgoing abandoned) service left before after refusal stays = (stays.0, ap (λ (s : Seated). s.slips) stays.1)
+
+  module _ (on : HeardOn) (service left : Service) (before after : Seated) where
+    heeds_at : (came : Heeded) → Heeds took at on service before left after came → Heeds slip_of node on service before.slips left after.slips came
+    heeds_at came so = record {
+      refusal = so.refusal;
+      handed = handed_at on.number on.heard service left before after so.refusal so.handed;
+      comes = so.comes;
+    }
+
+    -- a step was taken, or none was wanted
+    pub comes_at : (came : Heeded) → Heeds took at on service before left after came → Comes node on service before.slips left after.slips came
+    comes_at came so = inl (heeds_at came so)
+
+    -- and there was no memory for all that goes out
+    pub in_part_at : (system_id : List ℕ) (from to : Frames)
+        → HeedsInPart took (λ (a : Frames) prints lost (b : Frames). Puts a.frames.items prints b.frames.items) at system_id on service before from left after to
+        → ComesInPart node system_id on (standing service before.slips from) (standing left after.slips to)
+    in_part_at system_id from to so = record {
+      came = so.heeded;
+      comes = inl (heeds_at so.heeded so.heeds);
+      begun = record { put = so.begun.put; unput = so.begun.unput; all = so.begun.all; did = so.begun.did };
+    }
+
+-- ---- no step was taken
+
+no_slip : {F : Type 0} (fault : AskFault F) (before after : Seated)
     → HasNotAsked (λ (from : Seated) (why : F) (to : Seated). to.slips ≡ from.slips) before after fault → after.slips ≡ before.slips
 no_slip faults.Memory before after same = ap (λ (s : Seated). s.slips) same
 no_slip (faults.Step fault) before after same = same
 
--- and the operator is told
-pub asks_node : {A E : Type 0} (notice_in : A → Option Notice) (node : ℕ) (asking : Asking) (service left last : Service) (before after : List Slipped)
-    (refusal : Option Outgoing) (result : Result A E) → last ≡ left → IsHandedIn node asking service before refusal left after
-    → IfOk result (λ done. IsToldIf refusal (notice_in done)) → AsksNode notice_in node asking service before last after result
-asks_node notice_in node asking service left last before after refusal result same handed told = record {
-  refusal = refusal;
-  handed = subst (λ (s : Service). IsHandedIn node asking service before refusal s after) (sym same) handed;
-  told = told;
-}
+module _ {F : Type 0} (node : ℕ) (on : HeardOn) (service left : Service) (before after : Seated) (unasked : Unasked F)
+    (so : HeedsNot (λ (from : Seated) (why : F) (to : Seated). to.slips ≡ from.slips) on service before left after unasked)
+    (refusal : Outgoing) (is : refusal ≡ refusal_of unasked.asked SystemError) where
+  pub refuses_so : Comes node on service before.slips left after.slips (heededs.Response refusal)
+  refuses_so = inr (record {
+    asked = unasked.asked;
+    request = so.request;
+    is = so.is;
+    stays = so.stays;
+    slips = no_slip unasked.why before after so.step;
+    comes = ap heededs.Response is;
+  })
 
--- at most one
-pub one_request : (node number : ℕ) (heard : Heard) (service left : Service) (before after : List Slipped) (result : Result Heeded Trouble)
-    → Heeds node number heard service before left after result → HandsInRequest node before after
-one_request node number (heards.Request asked request) service left before after result asks = by_handed asks.handed
+  module _ (system_id : List ℕ) (from mid to : Frames) (same : mid ≡ from) where
+    pub refusal_put : Puts mid.frames.items (heeded_prints system_id on.number (heededs.Response refusal)) to.frames.items
+        → Puts from.frames.items (heeded_prints system_id on.number (heededs.Response refusal)) to.frames.items
+    refusal_put did =
+        subst (λ (f : Frames). Puts f.frames.items (heeded_prints system_id on.number (heededs.Response refusal)) to.frames.items) same did
+
+    pub refusal_unput : Puts mid.frames.items [] to.frames.items
+        → ComesInPart node system_id on (standing service before.slips from) (standing left after.slips to)
+    refusal_unput did = record {
+      came = heededs.Response refusal;
+      comes = refuses_so;
+      begun = none_begun (λ a prints lost b. Puts a prints b) (heeded_prints system_id on.number (heededs.Response refusal)) from.frames.items to.frames.items
+          (subst (λ (f : Frames). Puts f.frames.items [] to.frames.items) same did);
+    }
+
+-- ---- at most one
+
+one_so : (node : ℕ) (on : HeardOn) (service left : Service) (before after : List Slipped) (came : Heeded)
+    → Comes node on service before left after came → HandsInRequest node before after
+one_so node on service left before after came (inr not) = inr not.slips
+one_so node on service left before after came (inl so) = by_heard on.heard so.handed
   where
-    by_handed : IsHandedIn node (record { number = number; asked = asked; request = request }) service before asks.refusal left after
-        → HandsInRequest node before after
-    by_handed (inl has) = inl (has.account, request, has.taken, has.took_it)
-    by_handed (inr not) = inr not.0.slips
-one_request node number heards.Nothing service left before after result nothing = inr nothing.slips
-one_request node number (heards.Response outgoing) service left before after result nothing = inr nothing.slips
-one_request node number (heards.Answer pushed pdu) service left before after result nothing = inr nothing.slips
-one_request node number (heards.Gone outgoing abandoned) service left before after result nothing = inr nothing.slips
+    by_heard : (heard : Heard) → Hands slip_of node on.number heard service before left after so.refusal → HandsInRequest node before after
+    by_heard (heards.Request asked request) has = inl (has.account, request, has.taken, has.took_it)
+    by_heard heards.Nothing stays = inr stays.1
+    by_heard (heards.Response outgoing) stays = inr stays.1
+    by_heard (heards.Answer pushed pdu) stays = inr stays.1
+    by_heard (heards.Gone outgoing abandoned) stays = inr stays.1
+
+pub one_request : (node : ℕ) (system_id : List ℕ) (on : HeardOn) (old new : Standing) (result : Result Heeded AllocError)
+    → IfOk result (Comes node on old.service old.slips new.service new.slips) → OnErr result (ComesInPart node system_id on old new)
+    → HandsInRequest node old.slips new.slips
+one_request node system_id on old new (Ok came) comes part = one_so node on old.service new.service old.slips new.slips came comes
+one_request node system_id on old new (Err fault) comes part = one_so node on old.service new.service old.slips new.slips part.came part.comes
+
+-- ---- a frame
+
+module _ (node : ℕ) (settings : Settings) (now number : ℕ) (octets : List ℕ) (old : Standing) (heard : Heard) (site : Service)
+    (same : heard ≡ (heeds settings old.service.sessions number octets).heard)
+    (site_is : site ≡ record old.service { sessions = (heeds settings old.service.sessions number octets).sessions }) where
+  pub serves_so : (came : Heeded) (left kept last : Service) (slips : List Slipped) (mid to : Frames) (notice : Option Notice)
+      → Comes node (record { number = number; heard = heard }) site old.slips left slips came
+      → Puts old.frames (heeded_prints settings.system_id number came) mid.frames.items → kept ≡ left
+      → mail_in last ≡ (posted_on now kept number).next → Puts mid.frames.items (posted_on now kept number).prints to.frames.items → IsToldBy came notice
+      → Serves node settings now number octets old (standing last slips to) notice
+  serves_so came left kept last slips mid to notice comes one stays mail two told = record {
+    came = came;
+    left = left;
+    comes = subst (λ (s : Service). Comes node (record { number = number; heard = (heeds settings old.service.sessions number octets).heard }) s old.slips
+        left slips came) site_is (subst (λ (h : Heard). Comes node (record { number = number; heard = h }) site old.slips left slips came) same comes);
+    mail = mail ∙ ap (λ (s : Service). (posted_on now s number).next) stays;
+    put = puts_both old.frames mid.frames.items to.frames.items (heeded_prints settings.system_id number came) (posted_on now left number).prints one
+        (subst (λ (s : Service). Puts mid.frames.items (posted_on now s number).prints to.frames.items) stays two);
+    told = told;
+  }

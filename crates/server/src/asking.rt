@@ -1,23 +1,14 @@
 //! A request of a session goes to its node.
 
-ghost use Rattle.std.specs.Prelude.{◌≡◌, true, is_some};
-ghost use Rattle.esme_service.specs.Sessions.{account_at};
-ghost use Rattle.server.specs.Handing.{AsksNode, HandsIn, IsHandedIn};
+ghost use Rattle.std.specs.Prelude.{◌≡◌};
+ghost use Rattle.server.specs.Handing.{HandsIn};
 
-use crate::hearing::respond;
 use crate::shift::{Shift, ring};
-use crate::trouble::Trouble;
 use desk::Request;
-use esme_service::Asked;
-use esme_site::{Asking, Steps, Taken};
+use esme_site::{Steps, Taken};
 use node_workers::{Action, Begins, Refusal, Seat};
 use pdu_codec::SystemId;
-use pdu_tables::Status;
-use serve_nodes::Site;
-use serve_sessions::Notice;
-use sessions::{Outgoing, Requested};
 use stable_store::StableStore;
-use std::alloc::AllocError;
 use std::rt::Clock;
 use std::sync::Wait;
 
@@ -52,54 +43,5 @@ impl<S: StableStore, L: Begins, R: Wait + Eprint + Clock> Steps<Shift<'_, S, L, 
             shift.station.course.lock(shift.rt).count_serial();
         }
         Ok(taken)
-    }
-}
-
-/// A request goes to the node: it waits on its session, or is refused there; what the operator is told.
-pub(crate) fn ask<S: StableStore, L: Begins, R: Wait + Eprint + Clock>(
-    shift: &Shift<'_, S, L, R>,
-    site: &mut Site,
-    seat: &mut Seat<L>,
-    asking: Asking,
-) -> Result<Option<Notice>, AllocError>
-    requires { is_some (account_at site.old.service.sessions asking.number) ≡ true }
-    ensures { AsksNode (λ notice. notice) shift.now.station.now.node asking site.old.service seat.old.slips site.new.service seat.new.slips result }
-{
-    let number = asking.number;
-    match refusal_of(shift, site, seat, asking) {
-        Some(refusal) => respond(shift, site, number, refusal),
-        None => Ok(None),
-    }
-}
-
-/// The response that refuses a request that is handed in; none if it waits. If the step can't be made, it is refused with 0x08.
-fn refusal_of<S: StableStore, L: Begins, R: Wait + Eprint + Clock>(
-    shift: &Shift<'_, S, L, R>,
-    site: &mut Site,
-    seat: &mut Seat<L>,
-    asking: Asking,
-) -> Option<Outgoing>
-    requires { is_some (account_at site.old.service.sessions asking.number) ≡ true }
-    ensures { IsHandedIn shift.now.station.now.node asking site.old.service seat.old.slips result site.new.service seat.new.slips }
-{
-    let asked = asking.asked;
-    match esme_site::ask(&mut site.service, seat, shift, asking) {
-        Ok(refusal) => {
-            count(site, asked);
-            refusal
-        }
-        Err(fault) => {
-            shift.meet(Trouble::from(fault));
-            Some(asked.refusal(Status::SystemError))
-        }
-    }
-}
-
-/// A request was handed in.
-fn count(site: &mut Site, asked: Asked)
-    ensures { site.new.service ≡ site.old.service }
-{
-    if asked.requested == Requested::SubmitSm {
-        site.tally.submits = site.tally.submits.saturating_add(1);
     }
 }

@@ -1,6 +1,6 @@
 //! Who serves a session, in a life of its node.
 
-use crate::hearing::{Heeded, heed, heed_wrong_length};
+use crate::hearing::{Upshot, heed, heed_wrong_length};
 use crate::shift::Shift;
 use crate::starting::start_workers;
 use crate::trouble::Trouble;
@@ -58,7 +58,7 @@ fn attend_on<
         connection.wait_to_serve(shift.rt);
         is_receiver = match connection.next(shift.rt) {
             Next::Rest => return None,
-            Next::End(reason) => return Some(ended(shift, number, reason)),
+            Next::End(reason) => return Some(ended(shift, seat, number, reason)),
             Next::Frame(frame) => match serve_frame(shift, connection, number, seat, frame) {
                 Ok(is_receiver) => is_receiver,
                 Err(reason) => return Some(reason),
@@ -77,9 +77,9 @@ fn serve_frame<S: StableStore, L: Begins, R: Wait + Eprint + Clock>(
     frame: Vec<u8>,
 ) -> Result<bool, Reason> {
     match heed(shift, seat, number, &frame) {
-        Ok(heeded) => {
-            let is_receiver = heeded.binds_receiver();
-            match told(shift, connection, number, heeded) {
+        Ok(upshot) => {
+            let is_receiver = upshot.binds_receiver();
+            match told(shift, connection, number, upshot) {
                 Some(reason) => Err(reason),
                 None => Ok(is_receiver),
             }
@@ -108,9 +108,13 @@ fn told<S: StableStore, L: Begins, R: Wait + Eprint + Clock>(
     shift: &Shift<'_, S, L, R>,
     connection: &Connection,
     number: u8,
-    heeded: Heeded,
+    upshot: Upshot,
 ) -> Option<Reason> {
-    let Heeded { notice, is_gone } = heeded;
+    let Upshot {
+        notice,
+        is_gone,
+        ..
+    } = upshot;
     if let Some(notice) = notice {
         if let Notice::Bound(_, account, _) = &notice {
             connection.bind(shift.rt, *account);
@@ -123,13 +127,14 @@ fn told<S: StableStore, L: Begins, R: Wait + Eprint + Clock>(
 /// Why a session ends on which nothing more comes, for this reason: as the server ends, who read only saw an end.
 fn ended<S: StableStore, L: Begins, R: Wait + Eprint + Clock>(
     shift: &Shift<'_, S, L, R>,
+    seat: &mut Seat<L>,
     number: u8,
     reason: Reason,
 ) -> Reason {
     match reason {
         Reason::Closed if shift.shared.house.is_over(shift.rt) => Reason::CentreEnds,
         Reason::WrongLength => {
-            heed_wrong_length(shift, number);
+            heed_wrong_length(shift, seat, number);
             Reason::WrongLength
         }
         other => other,
