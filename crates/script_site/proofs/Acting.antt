@@ -6,7 +6,7 @@ use Rattle.std.specs.declared.alloc.AllocError.{AllocError}
 use Rattle.mc_model.specs.node.Outputs.{Receipt, Reply}
 use Rattle.sessions.specs.Session.{Session}
 use Rattle.esme_service.specs.Service.{Service}
-use Rattle.script_text.specs.Left.{followed_by, rests}
+use Rattle.script_text.specs.Left.{followed_by}
 use Rattle.script_text.specs.Prints.{Print, text_at}
 use Rattle.script_text.specs.Receipts.{Mail, Posted, all_posted}
 use Rattle.script_text.specs.Runner.{Acted, Runner, Told, mail_of, posts, told, with_posted}
@@ -62,9 +62,6 @@ module _ (home : ℕ) where
   acts_as (Err fault) one other old new before after same did = tt
   acts_as (Ok done) one other old new before after same did =
       λ w runner running. has_acted w (one runner) (other runner) new before after (same w runner running) (did w runner running)
-
-  pub nothing_acts : (at : Placed) (text : List ℕ) → Acts home rests at at text text
-  nothing_acts at text w runner running = record { running = running; text = sym (append-nil text) }
 
   -- ---- the site alone
 

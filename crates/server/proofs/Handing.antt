@@ -108,6 +108,10 @@ module _ {F : Type 0} (node : ℕ) (on : HeardOn) (service left : Service) (befo
           (subst (λ (f : Frames). Puts f.frames.items [] to.frames.items) same did);
     }
 
+pub if_err : {T : Type 0} (r : Result T AllocError) (A : Type 0) → A → OnErr r A
+if_err (Ok done) A a = tt
+if_err (Err fault) A a = a
+
 -- ---- at most one
 
 one_so : (node : ℕ) (on : HeardOn) (service left : Service) (before after : List Slipped) (came : Heeded)
