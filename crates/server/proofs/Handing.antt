@@ -11,7 +11,7 @@ use Rattle.esme_service.specs.Settings.{Settings}
 use Rattle.esme_service.specs.declared.heard.Heard.{Heard}
 use Rattle.esme_service.specs.declared.heard.Heard.TheVariants as heards
 use Rattle.esme_site.specs.Asking.{HasNotAsked, refusal_of}
-use Rattle.esme_site.specs.Heeding.{HandsIn as Hands, Heeds, HeedsInPart, HeedsNot, heeded_prints}
+use Rattle.esme_site.specs.Heeding.{HandsIn as Hands, HeedsNot, heeded_prints}
 use Rattle.esme_site.specs.Puts.{mail_in, posted_on}
 use Rattle.esme_site.specs.declared.asking.AskFault.{AskFault}
 use Rattle.esme_site.specs.declared.asking.AskFault.TheVariants as faults
@@ -30,48 +30,6 @@ use Rattle.server.specs.Handing.{Comes, ComesInPart, HandsIn, HandsInRequest, Is
 -- a slip of a step in which a request came
 abbrev slip_of : List Slipped → ℕ → List ℕ → Request → Taken → List Slipped → Type 0
 slip_of from at account request taken to = HandsIn from at account request taken to
-
--- ---- over a seat
-
-module _ {At : Type 0} (took : Seated → At → List ℕ → Request → Taken → Seated → Type 0) (at : At) (node : ℕ)
-    (hands : (from : Seated) (account : List ℕ) (request : Request) (taken : Taken) (to : Seated) → took from at account request taken to
-    → HandsIn from.slips node account request taken to.slips) where
-  handed_at : (number : ℕ) (heard : Heard) (service left : Service) (before after : Seated) (refusal : Option Outgoing)
-      → Hands took at number heard service before left after refusal → Hands slip_of node number heard service before.slips left after.slips refusal
-  handed_at number (heards.Request asked request) service left before after refusal has = record {
-    account = has.account;
-    its = has.its;
-    taken = has.taken;
-    took_it = hands before has.account request has.taken after has.took_it;
-    waits = has.waits;
-    refuses = has.refuses;
-  }
-  handed_at number heards.Nothing service left before after refusal stays = (stays.0, ap (λ (s : Seated). s.slips) stays.1)
-  handed_at number (heards.Response outgoing) service left before after refusal stays = (stays.0, ap (λ (s : Seated). s.slips) stays.1)
-  handed_at number (heards.Answer pushed pdu) service left before after refusal stays = (stays.0, ap (λ (s : Seated). s.slips) stays.1)
-  handed_at number (heards.Gone outgoing abandoned) service left before after refusal stays = (stays.0, ap (λ (s : Seated). s.slips) stays.1)
-
-  module _ (on : HeardOn) (service left : Service) (before after : Seated) where
-    heeds_at : (came : Heeded) → Heeds took at on service before left after came → Heeds slip_of node on service before.slips left after.slips came
-    heeds_at came so = record {
-      refusal = so.refusal;
-      handed = handed_at on.number on.heard service left before after so.refusal so.handed;
-      comes = so.comes;
-    }
-
-    -- a step was taken, or none was wanted
-    pub comes_at : (came : Heeded) → Heeds took at on service before left after came → Comes node on service before.slips left after.slips came
-    comes_at came so = inl (heeds_at came so)
-
-    -- and there was no memory for all that goes out
-    pub in_part_at : (system_id : List ℕ) (from to : Frames)
-        → HeedsInPart took (λ (a : Frames) prints lost (b : Frames). Puts a.frames.items prints b.frames.items) at system_id on service before from left after to
-        → ComesInPart node system_id on (standing service before.slips from) (standing left after.slips to)
-    in_part_at system_id from to so = record {
-      came = so.heeded;
-      comes = inl (heeds_at so.heeded so.heeds);
-      begun = record { put = so.begun.put; unput = so.begun.unput; all = so.begun.all; did = so.begun.did };
-    }
 
 -- ---- no step was taken
 
@@ -94,11 +52,6 @@ module _ {F : Type 0} (node : ℕ) (on : HeardOn) (service left : Service) (befo
   })
 
   module _ (system_id : List ℕ) (from mid to : Frames) (same : mid ≡ from) where
-    pub refusal_put : Puts mid.frames.items (heeded_prints system_id on.number (heededs.Response refusal)) to.frames.items
-        → Puts from.frames.items (heeded_prints system_id on.number (heededs.Response refusal)) to.frames.items
-    refusal_put did =
-        subst (λ (f : Frames). Puts f.frames.items (heeded_prints system_id on.number (heededs.Response refusal)) to.frames.items) same did
-
     pub refusal_unput : Puts mid.frames.items [] to.frames.items
         → ComesInPart node system_id on (standing service before.slips from) (standing left after.slips to)
     refusal_unput did = record {
