@@ -1,6 +1,6 @@
 //! What comes of a PDU of an ESME.
 
-ghost use Rattle.std.specs.Prelude.{◌≡◌, None, false, IfOk, OnErr};
+ghost use Rattle.std.specs.Prelude.{◌≡◌, false, IfOk, OnErr};
 ghost use Rattle.esme_service.specs.Settings.{settings_of};
 ghost use Rattle.esme_site.specs.Asking.{HasAsker};
 ghost use Rattle.esme_site.specs.Heeding.{heeded_prints};
