@@ -1,24 +1,11 @@
 -- What a node keeps once a step is saved.
-use Rattle.std.proofs.Common.{◌≡◌, suc, true, false, map, subst, ◌∙◌}
+use Rattle.std.proofs.Common.{◌≡◌, false, subst, ◌∙◌}
 use Rattle.node_kept.specs.Input.{Input}
 use Rattle.node_kept.specs.declared.kept.Kept.{Kept as Holding}
-use Rattle.node_kept.specs.declared.step.Next.{Next}
 use Rattle.node_kept.specs.declared.step.Step.{Step}
-use Rattle.node_kept.specs.Keeping.{filed_as, kept_of, records_of}
-use Rattle.node_kept.specs.Steps.{IsInstalled, IsStepFor, kept_then}
+use Rattle.node_kept.specs.Steps.{IsInstalled, IsStepFor}
+use Rattle.node_kept.proofs.Installing.{installed_so}
 use Rattle.node_core.specs.Nodes.{HasTaken, Standing}
-
-installed_so : (old new : Holding) (next : Next) → IsInstalled old next new → kept_of new ≡ kept_then old next
-installed_so old new next is = λ i. record {
-  records = records_of (is.entries i);
-  up = true;
-  incarnation = is.incarnation i;
-  clock = is.clock i;
-  serial = is.serial i;
-  ticket = suc (is.given i);
-  held = is.queue i;
-  messages = map filed_as (is.entries i);
-}
 
 pub taken : {S : Type 0} (old new : Standing S) (was : Holding) (input came : Input) (step : Step) → was ≡ old.kept → came ≡ input → IsStepFor was came step →
     IsInstalled old.kept step.next new.kept → new.broken ≡ false → new.unfinished ≡ old.unfinished → new.stopped ≡ old.stopped →

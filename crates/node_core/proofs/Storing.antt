@@ -1,12 +1,9 @@
 -- What a node keeps is stored, once its step is.
-use Rattle.std.proofs.Common.{◌≡◌, ◌≤◌, ℕ, suc, false, List, Option, Some, None, refl, sym, ap, subst, ◌∙◌}
+use Rattle.std.proofs.Common.{◌≡◌, ℕ, false, List, Option, Some, None, refl, sym, ap, subst, ◌∙◌}
 use Rattle.std.specs.Prelude.{is_some}
 use Rattle.std.proofs.Math.Path.{fun_ext}
 use Rattle.std.proofs.lemmas.Bool.{true≢false}
-use Rattle.mc_model.specs.node.Setup.{Setup}
-use Rattle.node_kept.specs.Waiting.{held_in}
 use Rattle.mc_model.specs.synod.Acceptor.{Records}
-use Rattle.node_model.specs.Kept.{Held}
 use Rattle.synod_acceptor.specs.declared.packet.Packet.{Packet as Sent}
 use Rattle.synod_acceptor.specs.declared.record.Change.{Change}
 use Rattle.node_kept.specs.Input.{Input}
@@ -14,10 +11,10 @@ use Rattle.node_kept.specs.Message.{Message as Filed}
 use Rattle.node_kept.specs.Messages.{changed_by}
 use Rattle.node_kept.specs.declared.kept.Kept.{Kept as Holding}
 use Rattle.node_kept.specs.declared.step.Step.{Step}
-use Rattle.node_kept.specs.Keeping.{AreOf, AreOwn, records_of}
+use Rattle.node_kept.specs.Keeping.{records_of}
 use Rattle.node_kept.specs.Preparing.{IsPrepared, packet_in}
-use Rattle.node_kept.specs.Queueing.{AreAsked}
-use Rattle.node_kept.specs.Steps.{AreOwnThen, IsInstalled}
+use Rattle.node_kept.specs.Steps.{IsInstalled}
+use Rattle.node_kept.proofs.Installing.{own_then}
 use Rattle.stable_store.specs.Stored.{AreSame, Stored}
 use Rattle.node_core.specs.Nodes.{IsStored, SavesAny, records_in}
 use Rattle.node_core.specs.Stops.{IsUnfinished}
@@ -32,18 +29,6 @@ unchanged k input step packet None is prepared none = is
 unchanged k input step packet (Some change) is prepared none =
     let from = saves_for k input step packet change prepared is in
     absurd (some_is_none from.packet (sym (ap packet_in from.came) ∙ none))
-
-own_then : (k new : Holding) (step : Step) → IsInstalled k step.next new → AreOwnThen k step.next → AreOwn new
-own_then k new step is own = record {
-  each = subst (λ (s : Setup). AreOf s new.incarnation new.messages.entries) (sym is.setup)
-      (subst (λ (i : ℕ). AreOf k.setup i new.messages.entries) (sym is.incarnation)
-      (subst (λ (es : List (ℕ × Filed)). AreOf k.setup k.incarnation es) (sym is.entries) own.each));
-  asked = subst (λ (s : Setup). AreAsked s.node new.incarnation (suc new.given) (held_in new.queue)) (sym is.setup)
-      (subst (λ (i : ℕ). AreAsked k.setup.node i (suc new.given) (held_in new.queue)) (sym is.incarnation)
-      (subst (λ (n : ℕ). AreAsked k.setup.node k.incarnation (suc n) (held_in new.queue)) (sym is.given)
-      (subst (λ (hs : List Held). AreAsked k.setup.node k.incarnation (suc step.next.given) hs) (sym is.queue) own.asked)));
-  serial = subst (λ (n : ℕ). 1 ≤ n) (sym is.serial) own.serial;
-}
 
 -- a step that saves nothing leaves what is stored
 pub saves_none : (k was : Holding) (input given : Input) (step : Step) (packet : Option Sent) (stored : Stored) → was ≡ k → given ≡ input →
@@ -66,7 +51,7 @@ stored_once k was new input given step packet unfinished before after same_kept 
     let holds : after.holds (records_in new) = subst after.holds (sym records) (saves (records_in k) (old.saved refl)) in
     record {
       saved = λ works. holds;
-      own = own_then k new step is (now.is.is.own old.own);
+      own = own_then k new step.next is (now.is.is.own old.own);
       finished = old.finished;
       halted = λ left found. subst (λ (p : Option Sent). IsUnfinished new left p) (sym (old.finished refl)) (settled (records_in new) left holds found);
     }

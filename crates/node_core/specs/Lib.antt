@@ -2,6 +2,7 @@ pub use Rattle.node_kept.specs.Attempting
 pub use Rattle.node_kept.specs.StepFault
 pub use Rattle.node_kept.specs.Input
 pub use Rattle.node_kept.specs.Outputs
+pub use Rattle.node_kept.specs.Grouping
 pub use Rattle.node_kept.specs.Keeping
 pub use Rattle.node_kept.specs.Listing
 pub use Rattle.node_kept.specs.Setups

@@ -1,6 +1,7 @@
 //! One node over the synod and a store that outlives its stops: how it opens, prepares its steps and commits them, and grants attempts.
 #![tactic(auto)]
 
+mod grouping;
 mod laws;
 mod life;
 mod loaded;
@@ -18,8 +19,8 @@ pub use life::Life;
 pub use loaded::Loaded;
 pub use node::Node;
 pub use node_kept::{
-    Found, GrantRefusal, Input, MayBegin, MessageIds, Outputs, Reach, Setup, StepFault, Stopped,
-    sender,
+    Found, GrantRefusal, Input, JoinFault, MOST_GROUPED, MayBegin, MessageIds, Outputs, Reach,
+    Setup, StepFault, StepGroup, Stopped, sender,
 };
 pub use open::open_node;
 pub use pending::Pending;

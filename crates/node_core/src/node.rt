@@ -36,7 +36,7 @@ use synod_acceptor::{Change, Packet};
 #[derive(Drop)]
 pub struct Node<S: StableStore> {
     store: S,
-    kept: Kept,
+    pub(crate) kept: Kept,
     broken: bool,
     // The packet whose save failed since it opened.
     unfinished: Option<Packet>,
@@ -256,7 +256,7 @@ impl<S: StableStore> Node<S> {
 
     /// Broken exactly if a save failed before. It takes no memory.
     #[inline(always)]
-    fn judge(&self) -> Result<(), StepFault>
+    pub(crate) fn judge(&self) -> Result<(), StepFault>
         ensures broken { IsErrOf result Broken ↔ (self.now.broken ≡ true) }
         ensures faults { IfErr result (λ fault. fault ≡ Broken) }
     {

@@ -11,6 +11,9 @@ pub mod Verdicts
 pub mod Knowing
 pub mod Arrivals
 pub mod Listing
+pub mod Alone
+pub mod Installing
+pub mod Groups
 pub mod Opening
 pub mod Voting
 pub mod Quiet

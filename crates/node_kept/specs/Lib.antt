@@ -18,6 +18,7 @@ pub mod Keeping
 pub mod Listing
 pub mod Steps
 pub mod Preparing
+pub mod Grouping
 pub mod Finding
 pub mod Voting
 pub mod Telling

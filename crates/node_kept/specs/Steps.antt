@@ -1,6 +1,7 @@
 -- A step of the code, as a step of the node's model.
-use Rattle.std.specs.Prelude.{◌≡◌, ◌≢◌, ℕ, suc, ◌≤◌, ◌-◌, max, Bool, false, List, [], ◌∷◌, length, map, option_map, Option, Some, None, IfSome, if◌then◌else◌}
+use Rattle.std.specs.Prelude.{◌≡◌, ◌≢◌, ℕ, suc, ◌≤◌, ◌+◌, ◌-◌, max, Bool, false, List, [], ◌∷◌, length, map, option_map, Option, Some, None, IfSome, if◌then◌else◌}
 use Rattle.std.specs.Box.{box_value}
+use Rattle.std.specs.List.{AllByRecursion}
 use Rattle.std.specs.Vec.{vec_capacity}
 use Rattle.mc_model.specs.message.Chain.{Chain}
 use Rattle.mc_model.specs.synod.Packet.{Packet, Slot, slot_of}
@@ -145,6 +146,8 @@ pub record IsInstalled (old : Holding) (next : Next) (new : Holding) : Type 0 wh
   pub given : new.given ≡ next.given
   pub entries : new.messages.entries ≡ entries_then old.messages.entries next
   pub queue : held_in new.queue ≡ requeued old.setup.nodes (held_in old.queue) next.queue
+  pub room : old.messages.room ≤ new.messages.room + length next.messages.items
+  pub listings : old.messages.listings ≤ new.messages.listings + length next.messages.items
 
 -- there is room for its messages, and to list them
 abbrev pub room_in : Option MessageRoom → ℕ
@@ -159,6 +162,12 @@ abbrev pub HasRoom : Listed → Next → Type 0
 HasRoom kept next =
     (length next.messages.items ≤ max kept.room (room_in next.room - length kept.entries))
     × (length next.messages.items ≤ max kept.listings (listings_in next.room - length kept.entries))
+
+-- they put this message in the place of what is kept of this id, and no other
+pub record PutsOne (id : ℕ) (m : Filed) (messages : List Put) : Type 0 where
+  pub entries : (entries : List (ℕ × Filed)) → entries_after entries messages ≡ with_value entries id m
+  pub ids : AllByRecursion (λ (put : Put). put.id ≡ id) messages
+  pub once : length messages ≤ 1
 
 -- this message is to take the place of what is kept of this id, and nothing else changes
 pub record IsNext (k : Holding) (id : ℕ) (m : Filed) (next : Next) : Type 0 where

@@ -1,6 +1,6 @@
 //! What a node keeps.
 
-ghost use Rattle.std.specs.Prelude.{◌≡◌, ℕ, suc, ◌≤◌, ◌&&◌, length, [], None, IfErr, IfOk, IfSome, IsOk, OnOk, not, option_map, false, true};
+ghost use Rattle.std.specs.Prelude.{◌≡◌, ℕ, suc, ◌+◌, ◌≤◌, ◌&&◌, length, [], None, IfErr, IfOk, IfSome, IsOk, OnOk, not, option_map, false, true};
 ghost use Rattle.std.specs.Option.{option_copied};
 ghost use Rattle.mc_model.specs.node.Setup.{Setup as SetupValue};
 ghost use Rattle.mc_model.specs.synod.Acceptor.{Records};
@@ -17,6 +17,7 @@ ghost use Rattle.shelf.specs.Shelved.{value_at, with_value};
 ghost use Rattle.synod_acceptor.specs.Records.{entries_of, record_at};
 ghost use Rattle.synod_acceptor.specs.Votes.{report_of, slot_in, slot_reported, told_vote, vote_of};
 ghost use Rattle.node_parts.specs.Lists.{listed};
+ghost use Rattle.node_kept.specs.Grouping.{IsAlone};
 ghost use Rattle.node_kept.specs.Idling.{FindsNothing};
 ghost use Rattle.node_kept.specs.Keeping.{AreOwn, IsOpen, IsTaken, kept_of};
 ghost use Rattle.node_kept.specs.Listing.{ListsRecorded};
@@ -25,7 +26,7 @@ ghost use Rattle.node_kept.specs.declared.queue_change.QueueChange.TheVariants.{
 ghost use Rattle.waiting_requests.specs.Waiting.{held_in};
 ghost use Rattle.node_kept.specs.Voting.{IsCountedSo, id_concerns, voted_in};
 ghost use Rattle.node_kept.specs.Preparing.{IsPrepared};
-ghost use Rattle.node_kept.specs.Steps.{HasRoom, IsAnswer, IsCounting, IsFault, IsInstalled, IsLeft, IsNext, IsQuietStep, IsStep, IsTakenQuietly, MayCount, MayRecord};
+ghost use Rattle.node_kept.specs.Steps.{HasRoom, IsAnswer, IsCounting, IsFault, IsInstalled, IsLeft, IsNext, IsQuietStep, IsStep, IsTakenQuietly, MayCount, MayRecord, PutsOne};
 ghost use Rattle.node_kept.specs.Steps.{counted_if, entries_after, entries_before, giving, recorded_if, refused_by, rested_if};
 ghost use Rattle.node_model.specs.Reported.{receipt_of};
 
@@ -244,7 +245,7 @@ impl Kept {
 
     /// Whether the node is one of the cluster.
     #[inline(always)]
-    fn is_member(&self, node: NodeNo) -> bool
+    pub(crate) fn is_member(&self, node: NodeNo) -> bool
         ensures { result ≡ is_member self.now.setup node }
     {
         node.number() <= self.setup.nodes
@@ -297,8 +298,9 @@ impl Kept {
 
     /// What it does with a Prepare.
     #[inline(never)]
-    fn on_prepare(&self, slot: Slot, ballot: Ballot) -> Result<Step, AllocError>
-        ensures { IfOk result (IsStep self.now (on_prepare self.now.setup (kept_of self.now) slot ballot)) }
+    pub(crate) fn on_prepare(&self, slot: Slot, ballot: Ballot) -> Result<Step, AllocError>
+        ensures step { IfOk result (IsStep self.now (on_prepare self.now.setup (kept_of self.now) slot ballot)) }
+        ensures alone { AreOwn self.now → IfOk result (IsAlone slot.id self.now (λ setup kept. on_prepare setup kept slot ballot)) }
     {
         let id = slot.id;
         self.messages.ascends();
@@ -317,8 +319,9 @@ impl Kept {
 
     /// What it does with a Propose.
     #[inline(never)]
-    fn on_propose(&self, vote: &Vote) -> Result<Step, AllocError>
-        ensures { IfOk result (IsStep self.now (on_propose self.now.setup (kept_of self.now) (slot_in vote.now) (vote_of vote.now))) }
+    pub(crate) fn on_propose(&self, vote: &Vote) -> Result<Step, AllocError>
+        ensures step { IfOk result (IsStep self.now (on_propose self.now.setup (kept_of self.now) (slot_in vote.now) (vote_of vote.now))) }
+        ensures alone { AreOwn self.now → IfOk result (IsAlone (slot_in vote.now).id self.now (λ setup kept. on_propose setup kept (slot_in vote.now) (vote_of vote.now))) }
     {
         let id = vote.chain.id();
         self.messages.ascends();
@@ -688,7 +691,7 @@ impl Kept {
         verdict: Verdict,
     ) -> Result<Step, AllocError>
         ensures answer { IfOk result (IsAnswer self.now message verdict) }
-        ensures messages { IfOk result (λ step. entries_after self.now.messages.entries step.next.messages.items ≡ with_value self.now.messages.entries id message) }
+        ensures messages { IfOk result (λ step. PutsOne id message step.next.messages.items) }
         ensures room { IfOk result (λ step. HasRoom self.now.messages step.next) }
     {
         let mut step = self.answer(&message, verdict)?;
@@ -760,7 +763,9 @@ fn count_if(kept: &mut MessageShelf, counted: Option<Counted>)
 #[inline(always)]
 fn record_if(kept: &mut MessageShelf, change: Option<Change>, room: RecordRoom)
     requires { MayRecord kept.old.entries change room }
-    ensures { kept.new.entries ≡ recorded_if change kept.old.entries }
+    ensures entries { kept.new.entries ≡ recorded_if change kept.old.entries }
+    ensures room { kept.new.room ≡ kept.old.room }
+    ensures listings { kept.new.listings ≡ kept.old.listings }
 {
     if let Some(change) = change {
         let id = change.after.slot().id;
@@ -785,7 +790,9 @@ fn rest_if(kept: &mut MessageShelf, ends: bool)
 fn put_each(kept: &mut MessageShelf, mut messages: Vec<Put>)
     requires room { length messages.items ≤ kept.old.room }
     requires listings { length messages.items ≤ kept.old.listings }
-    ensures { kept.new.entries ≡ entries_after kept.old.entries messages.items }
+    ensures entries { kept.new.entries ≡ entries_after kept.old.entries messages.items }
+    ensures left { kept.old.room ≤ kept.new.room + length messages.items }
+    ensures listings_left { kept.old.listings ≤ kept.new.listings + length messages.items }
 {
     while let Some(put) = messages.pop() {
         kept.put(put.id, put.message);
@@ -795,7 +802,9 @@ fn put_each(kept: &mut MessageShelf, mut messages: Vec<Put>)
 /// Notes until when messages sleep, if it was a tick, by what it was told of accounts and of messages. It takes no memory.
 #[inline(always)]
 fn doze_if(kept: &mut MessageShelf, at: &Standpoint, reach: Option<Reach>)
-    ensures { kept.new.entries ≡ kept.old.entries }
+    ensures entries { kept.new.entries ≡ kept.old.entries }
+    ensures room { kept.new.room ≡ kept.old.room }
+    ensures listings { kept.new.listings ≡ kept.old.listings }
 {
     if let Some(reach) = reach {
         kept.doze(at, reach);

@@ -2,6 +2,8 @@
 #![tactic(auto)]
 
 #[cfg(test)]
+mod groups;
+#[cfg(test)]
 mod many_requests;
 #[cfg(test)]
 mod nodes_by_rows;

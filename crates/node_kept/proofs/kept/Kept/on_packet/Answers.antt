@@ -17,7 +17,7 @@ returns-in-Prepare c =
     rw c.in-Prepare.is
     (subst (λ (to : Stepped). IfOk c.on_prepare.result (IsStep c.args.self.now to))
     (of_member setup (kept_of c.args.self.now) c.in-Prepare.from (on_prepare setup (kept_of c.args.self.now) c.in-Prepare.slot c.in-Prepare.ballot) member)
-    c.on_prepare.ensures)
+    c.on_prepare.ensures.step)
 
 pub returns-in-Propose : goal.returns-in-Propose
 returns-in-Propose c =
@@ -28,7 +28,7 @@ returns-in-Propose c =
     (subst (λ (to : Stepped). IfOk c.on_propose.result (IsStep c.args.self.now to))
     (of_member setup (kept_of c.args.self.now) c.in-Propose.from
     (on_propose setup (kept_of c.args.self.now) (slot_in c.in-Propose.vote) (vote_of c.in-Propose.vote)) member)
-    c.on_propose.ensures)
+    c.on_propose.ensures.step)
 
 pub returns-in-Voted : goal.returns-in-Voted
 returns-in-Voted c =
