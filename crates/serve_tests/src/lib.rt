@@ -4,6 +4,8 @@
 #[cfg(test)]
 mod clients;
 #[cfg(test)]
+mod courses;
+#[cfg(test)]
 mod on_and_on;
 #[cfg(test)]
 mod once;
