@@ -76,6 +76,8 @@ FAULTS = {
     "own": ("[[node]]", "[own]\nsessions = -1\n[[node]]", r"the configuration: bad value: own\.sessions, a whole number from 0 to 65535"),
     "own_table": ("[[node]]", "own = 1\n[[node]]", r"the configuration: no table: own"),
     "own_full": ("[[node]]", '[own]\nfull = "on"\n[[node]]', r'the configuration: bad value: own\.full, which is "end" or not there'),
+    "own_status": ("[[node]]", "[own]\nstatus = 9090\n[[node]]",
+                   r'the configuration: bad value: own\.status, an address and a port as "127\.0\.0\.1:9090", or not there'),
 }
 # What the limits of a configuration are by what it says of them.
 LIMITS = {
@@ -88,7 +90,8 @@ LIMITS = {
          "a connection on which its ESME takes nothing for 60 seconds is ended",
          "an attempt that waits for a place fails if no session of its account may receive for 30 seconds", "a node has 99 connections at most",
          "a part of the journal is closed after 7 steps"],
-    '[own]\nsessions = 5\nfull = "end"\n': ["a node has 5 connections at most", "it ends once its journal is full"],
+    '[own]\nsessions = 5\nfull = "end"\nstatus = "127.0.0.1:9090"\n':
+        ["a node has 5 connections at most", "it ends once its journal is full", "the status is served on 127.0.0.1:9090"],
 }
 
 

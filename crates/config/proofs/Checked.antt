@@ -1,18 +1,19 @@
 -- What the rows of a document say of its keys.
 use Rattle.std.proofs.Common.{◌≡◌, ◌↔◌, ℕ, ◌+◌, ◌<◌, Bool, true, false, not, ◌||◌, List, ◌∷◌, length, map, drop, get_or, Option, Some}
-use Rattle.std.proofs.Common.{None, MatchOption, IsTrue, is_some, refl, sym, ap, subst, ◌∙◌}
+use Rattle.std.proofs.Common.{None, MatchOption, IfSome, IsSomeAnd, IsTrue, codes, is_some, refl, sym, ap, subst, ◌∙◌}
 use Rattle.std.proofs.lemmas.Bool.{false≢true}
 use Rattle.std.proofs.lemmas.List.{drop_more, length-map}
 use Rattle.std.specs.List.{AllByRecursion, list_all, list_any}
 use Rattle.std.specs.declared.net.socket_addr.SocketAddrV4.{SocketAddrV4}
-use Rattle.toml.specs.Data.{Data}
+use Rattle.toml.specs.Data.{Data, as_str, get}
 use Rattle.toml.specs.declared.value.Value.{Value}
 use Rattle.toml.specs.View.{view, items_view}
 use Rattle.config.specs.declared.key.Key.{Key}
 use Rattle.config.specs.Keys.{is_needed, part_of}
 use Rattle.config.specs.Rows.{has_twice, is_table, listed, rows_of, same_value}
 use Rattle.config.specs.Listen.{IsListen}
-use Rattle.config.specs.Faults.{DoesNotFitAt, Fits, IsFit, IsMissing, IsUnfit, LacksAt, has_key, is_given}
+use Rattle.config.specs.Faults.{DoesNotFitAt, Fits, IsFit, IsListenText, IsMissing, IsUnfit, LacksAt, has_key, is_given}
+use Rattle.config.specs.Own.{IsFitStatus}
 use Rattle.config.proofs.Lists.{all_from_map, all_of_map, any_of_map, listed_view}
 
 pub given_here : (document : Data) (key : Key) (rows : List Value) → is_needed key ≡ true → map view rows ≡ rows_of document (part_of key)
@@ -71,3 +72,14 @@ pub not_again : (name : List ℕ) (rows : List Value) (place : ℕ) (first : Val
     (map view (drop (place + 1) rows)) ≡ has_twice name (map view rows)
 not_again name rows place first below is so_far again =
     sym (ap (λ (b : Bool). b || has_twice name (map view (drop (place + 1) rows))) again) ∙ sym (twice_here name rows place first below is) ∙ so_far
+
+-- ---- the table `own`
+
+-- a text under `status` that is no address and port
+pub status_unfit : (row : Data) (value : Data) (text : List ℕ) → get (codes "status") row ≡ Some value → as_str value ≡ Some text
+    → ((address : SocketAddrV4) → IsListen text address → ⊥) → ¬ IsFitStatus row
+status_unfit row value text there here none = λ fit.
+    let under : IsListenText value = subst (λ (at : Option Data). IfSome at IsListenText) there fit in
+    let some : (address : SocketAddrV4) × IsListen text address =
+    subst (λ (at : Option (List ℕ)). IsSomeAnd at (λ texts. (address : SocketAddrV4) × IsListen texts address)) here under in
+    none some.0 some.1

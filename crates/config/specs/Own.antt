@@ -1,5 +1,6 @@
 -- The table `own` of a configuration: what it says, and its faults (own).
-use Rattle.std.specs.Prelude.{◌≡◌, ℕ, Bool, true, false, List, codes, Option, Some, None, IfSome, Result, Ok, Err, is_some}
+use Rattle.std.specs.Prelude.{◌≡◌, ℕ, Bool, true, false, List, codes, Option, Some, None, IfSome, IsSomeAnd, Result, Ok, Err, is_some}
+use Rattle.std.specs.declared.net.socket_addr.SocketAddrV4.{SocketAddrV4}
 use Rattle.toml.specs.Data.{Data, as_str, get}
 use Rattle.config.specs.declared.own.Own.{Own}
 use Rattle.config.specs.declared.own_key.OwnKey.{OwnKey}
@@ -8,9 +9,10 @@ use Rattle.config.specs.declared.own_fault.OwnFault.{OwnFault}
 use Rattle.config.specs.declared.own_fault.OwnFault.TheVariants as faults
 pub use Rattle.config.specs.Config.{IsDocument}
 use Rattle.config.specs.Config.{number_at}
-use Rattle.config.specs.Faults.{IsNumberOf}
+use Rattle.config.specs.Faults.{IsListenText, IsNumberOf}
+use Rattle.config.specs.Listen.{IsListen}
 use Rattle.config.specs.OwnKeys.{most_in, own_name}
-use Rattle.config.specs.Rows.{is_table}
+use Rattle.config.specs.Rows.{is_table, text_in}
 
 -- a key has a value that it may have, or none
 abbrev pub IsFitOwn : Data → OwnKey → Type 0
@@ -27,8 +29,18 @@ ends_full_at row = is_some (get (codes "full") row)
 abbrev pub limit_at : Data → OwnKey → ℕ
 limit_at row key = number_at 0 (own_name key) row
 
-abbrev pub own_at : Data → Own
-own_at row = record {
+-- `status` has the text of an address and a port, or no value
+abbrev pub IsFitStatus : Data → Type 0
+IsFitStatus row = IfSome (get (codes "status") row) IsListenText
+
+-- the address of which the text stands under `status`; none if nothing stands there
+abbrev pub IsStatusAt : Data → Option SocketAddrV4 → Type 0
+IsStatusAt row None = get (codes "status") row ≡ None
+IsStatusAt row (Some address) = IsSomeAnd (text_in (codes "status") row) (λ text. IsListen text address)
+
+-- with the address that stands under `status`
+abbrev pub own_at : Data → Option SocketAddrV4 → Own
+own_at row status = record {
   idle_seconds = limit_at row IdleSeconds;
   bind_seconds = limit_at row BindSeconds;
   write_seconds = limit_at row WriteSeconds;
@@ -36,6 +48,7 @@ own_at row = record {
   sessions = limit_at row Sessions;
   part_entries = limit_at row PartEntries;
   ends_full = ends_full_at row;
+  status = status;
 }
 
 -- what a key of a table says, or why not
@@ -48,19 +61,34 @@ abbrev pub IsEndsFull : Data → Result Bool OwnFault → Type 0
 IsEndsFull row (Ok ends) = IsFitFull row × (ends ≡ ends_full_at row)
 IsEndsFull row (Err fault) = (¬ IsFitFull row) × (fault ≡ faults.BadFull)
 
+-- what `status` says, or why not
+abbrev pub IsStatus : Data → Result (Option SocketAddrV4) OwnFault → Type 0
+IsStatus row (Ok status) = IsStatusAt row status
+IsStatus row (Err fault) = (¬ IsFitStatus row) × (fault ≡ faults.BadStatus)
+
 -- what a value under `own` says, or why not
 abbrev pub IsOwnIn : Data → Result Own OwnFault → Type 0
-IsOwnIn row (Ok own) = (is_table row ≡ true) × ((key : OwnKey) → IsFitOwn row key) × IsFitFull row × (own ≡ own_at row)
+IsOwnIn row (Ok own) =
+    (is_table row ≡ true) × ((key : OwnKey) → IsFitOwn row key) × IsFitFull row × IsStatusAt row own.status × (own ≡ own_at row own.status)
 IsOwnIn row (Err faults.NotToml) = ⊥
 IsOwnIn row (Err faults.NoTable) = is_table row ≡ false
 IsOwnIn row (Err (faults.BadValue key)) = (is_table row ≡ true) × (¬ IsFitOwn row key)
 IsOwnIn row (Err faults.BadFull) = (is_table row ≡ true) × (¬ IsFitFull row)
+IsOwnIn row (Err faults.BadStatus) = (is_table row ≡ true) × (¬ IsFitStatus row)
 IsOwnIn row (Err faults.Memory) = ⊥
 
--- nothing under `own` is no limit
+-- nothing under `own` is no limit, and no page of the status
 abbrev pub no_limits : Own
-no_limits =
-    record { idle_seconds = 0; bind_seconds = 0; write_seconds = 0; linger_seconds = 0; sessions = 0; part_entries = 0; ends_full = false }
+no_limits = record {
+  idle_seconds = 0;
+  bind_seconds = 0;
+  write_seconds = 0;
+  linger_seconds = 0;
+  sessions = 0;
+  part_entries = 0;
+  ends_full = false;
+  status = None;
+}
 
 abbrev pub IsOwnUnder : Option Data → Result Own OwnFault → Type 0
 IsOwnUnder None result = result ≡ Ok no_limits
@@ -77,4 +105,5 @@ OwnReadsNone octets faults.NotToml = (document : Data) → IsDocument octets doc
 OwnReadsNone octets faults.NoTable = ⊥
 OwnReadsNone octets (faults.BadValue key) = ⊥
 OwnReadsNone octets faults.BadFull = ⊥
+OwnReadsNone octets faults.BadStatus = ⊥
 OwnReadsNone octets faults.Memory = Unit {0}

@@ -6,11 +6,13 @@ ghost use Rattle.toml.specs.View.{view};
 ghost use Rattle.config.specs.Own as spec;
 
 use crate::fault::ConfigFault;
+use crate::listen::read_listen;
 use crate::own_fault::OwnFault;
 use crate::own_key::OwnKey;
 use crate::reading::document_of;
 use crate::rows::as_number;
 use std::alloc::Global;
+use std::net::SocketAddrV4;
 use toml::Value;
 
 /// What the table `own` of a configuration says. Each number is 0 if the text does not say it: who serves by it says what limit there is then, if any.
@@ -30,11 +32,14 @@ pub struct Own {
     pub part_entries: u32,
     /// Whether a server ends once its journal is full, in place of going on with another part.
     pub ends_full: bool,
+    /// Where the page of the server's status is served, if anywhere.
+    pub status: Option<SocketAddrV4>,
 }
 
 /// What the table `own` of a text says (TOML, UTF-8); 0 for each key if there is none. `NotToml` only of what is no TOML; else `NoTable`, if something else stands
 /// there; else `BadValue`, with any of the keys whose value is no whole number from 0 to the greatest that it may have, or `BadFull`, if `full` has another
-/// value than "end". Other keys are ignored. `Memory` is want of memory, of which a text of white space and comments alone takes none.
+/// value than "end", or `BadStatus`, if `status` has another value than an address and a port. Other keys are ignored. `Memory` is want of memory, of which a
+/// text of white space and comments alone takes none.
 pub fn read_own(alloc: Global, octets: &[u8]) -> Result<Own, OwnFault>
     ensures outcome { spec.IsOwnOutcome octets.now result }
     ensures memory { result ≡ Err OwnFault.Memory → ¬ IsBlank octets.now }
@@ -50,6 +55,7 @@ pub fn read_own(alloc: Global, octets: &[u8]) -> Result<Own, OwnFault>
             sessions: 0,
             part_entries: 0,
             ends_full: false,
+            status: None,
         }),
     }
 }
@@ -81,6 +87,7 @@ fn own_in(table: &Value) -> Result<Own, OwnFault>
         sessions: limit(table, OwnKey::Sessions)?,
         part_entries: limit(table, OwnKey::PartEntries)?,
         ends_full: ends_full(table)?,
+        status: status(table)?,
     })
 }
 
@@ -107,5 +114,21 @@ fn ends_full(table: &Value) -> Result<bool, OwnFault>
     match value.as_str() {
         Some(text) if text == "end" => Ok(true),
         _ => Err(OwnFault::BadFull),
+    }
+}
+
+/// The address and the port under `status`, if anything stands there.
+fn status(table: &Value) -> Result<Option<SocketAddrV4>, OwnFault>
+    ensures { spec.IsStatus (view table.now) result }
+{
+    let Some(value) = table.get("status") else {
+        return Ok(None);
+    };
+    let Some(text) = value.as_str() else {
+        return Err(OwnFault::BadStatus);
+    };
+    match read_listen(text) {
+        Some(address) => Ok(Some(address)),
+        None => Err(OwnFault::BadStatus),
     }
 }

@@ -14,6 +14,8 @@ pub enum OwnFault {
     BadValue(OwnKey),
     /// What stands under `full` is not "end".
     BadFull,
+    /// What stands under `status` is no address and port.
+    BadStatus,
     /// There was no memory.
     Memory,
 }
@@ -31,6 +33,9 @@ impl fmt::Display for OwnFault {
                 )
             }
             OwnFault::BadFull => f.write_str("bad value: own.full, which is \"end\" or not there"),
+            OwnFault::BadStatus => f.write_str(
+                "bad value: own.status, an address and a port as \"127.0.0.1:9090\", or not there",
+            ),
             OwnFault::Memory => f.write_str("there was not enough memory"),
         }
     }

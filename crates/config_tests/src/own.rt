@@ -3,6 +3,7 @@
 use crate::same::assert_same;
 use config::{Own, OwnFault, OwnKey, read_own};
 use std::alloc::Global;
+use std::net::{Ipv4Addr, SocketAddrV4};
 
 /// What each text says, or why not.
 fn own_in(alloc: Global, text: &str) -> Result<Own, OwnFault> {
@@ -27,6 +28,7 @@ colour = "blue"
         sessions: 65_535,
         part_entries: 0,
         ends_full: false,
+        status: None,
     };
     assert_same(&rt, &own_in(rt.alloc(), text), &Ok(limits));
 }
@@ -42,6 +44,7 @@ linger_seconds = 86400
 sessions = 4
 part_entries = 150000
 full = "end"
+status = "127.0.0.1:9090"
 "#;
     let limits = Own {
         idle_seconds: 1,
@@ -51,6 +54,7 @@ full = "end"
         sessions: 4,
         part_entries: 150_000,
         ends_full: true,
+        status: Some(SocketAddrV4::new(Ipv4Addr::new(127, 0, 0, 1), 9090)),
     };
     assert_same(&rt, &own_in(rt.alloc(), text), &Ok(limits));
 }
@@ -65,6 +69,7 @@ fn no_table_is_no_limit(rt: HostRuntime) {
         sessions: 0,
         part_entries: 0,
         ends_full: false,
+        status: None,
     };
     assert_same(&rt, &own_in(rt.alloc(), "system_id = \"C\"\n"), &Ok(limits));
 }
@@ -91,4 +96,16 @@ fn what_is_no_limit_is_told(rt: HostRuntime) {
     );
     assert_same(&rt, &own_in(alloc, "own = 60\n"), &Err(OwnFault::NoTable));
     assert_same(&rt, &own_in(alloc, "[own\n"), &Err(OwnFault::NotToml));
+}
+
+#[test]
+fn what_is_no_address_of_the_status_is_told(rt: HostRuntime) {
+    let alloc = rt.alloc();
+    let bad = Err(OwnFault::BadStatus);
+    assert_same(&rt, &own_in(alloc, "[own]\nstatus = 9090\n"), &bad);
+    assert_same(&rt, &own_in(alloc, "[own]\nstatus = \"\"\n"), &bad);
+    assert_same(&rt, &own_in(alloc, "[own]\nstatus = \":9090\"\n"), &bad);
+    assert_same(&rt, &own_in(alloc, "[own]\nstatus = \"localhost:9090\"\n"), &bad);
+    assert_same(&rt, &own_in(alloc, "[own]\nstatus = \"127.0.0.1:65536\"\n"), &bad);
+    assert_same(&rt, &own_in(alloc, "[own]\nstatus = \"127.0.0.1\"\n"), &bad);
 }

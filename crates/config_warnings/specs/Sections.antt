@@ -18,7 +18,7 @@ names_in Accounts = codes "system_id" ∷ codes "password" ∷ codes "transmit" 
 names_in Routes = codes "prefix" ∷ codes "account" ∷ []
 names_in Own =
     codes "idle_seconds" ∷ codes "bind_seconds" ∷ codes "write_seconds" ∷ codes "linger_seconds" ∷ codes "sessions" ∷ codes "part_entries"
-    ∷ codes "full" ∷ []
+    ∷ codes "full" ∷ codes "status" ∷ []
 
 abbrev pub is_known : Section → List ℕ → Bool
 is_known section name = list_any (bytes_eq name) (names_in section)

@@ -74,6 +74,7 @@ fn is_of_own(name: &str) -> bool
         || name == "sessions"
         || name == "part_entries"
         || name == "full"
+        || name == "status"
 }
 
 /// No key that a configuration may have is one that means nothing.

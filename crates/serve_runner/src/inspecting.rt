@@ -39,6 +39,12 @@ fn print_all<R: Print>(rt: &R, source: &Source) {
     let serial = source.config.first_serial;
     let _ = println!(rt; "the first message of a node after a start has serial {serial}");
     print_limits(rt, source.own);
+    match source.own.status {
+        Some(address) => {
+            let _ = println!(rt; "the status is served on {address}");
+        }
+        None => {}
+    }
     match source.config.stop_after {
         0 => {}
         count => {

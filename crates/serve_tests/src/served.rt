@@ -86,6 +86,7 @@ fn settings(rt: &impl Abort, alloc: Global, case: Case) -> Settings {
             sessions: 0,
             part_entries: case.part_entries,
             ends_full: false,
+            status: None,
         },
         is_quiet: true,
         stop: Arc::new(alloc, Stop::none()).expect(rt, "memory"),
