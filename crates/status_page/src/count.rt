@@ -76,7 +76,6 @@ impl Count {
                 | Count::Packets
                 | Count::Parts
                 | Count::ClosedEntries
-                | Count::Dropped
                 | Count::Wants
         )
     }
