@@ -130,7 +130,11 @@ fn made<S: StableStore + Drop>(
             blank: Blank::new(PARTS),
             nodes,
         },
-        doors: Doors { entrances, lives },
+        doors: Doors {
+            entrances,
+            lives,
+            status: None,
+        },
         settings,
     }
 }

@@ -87,7 +87,7 @@ pub(crate) fn tick_on<S: StableStore, L: Begins, R: Wait + Eprint + Clock>(
     let mut beat = Beat::begin(shift.rt);
     for _ in shift.rt.forever() {
         wait_for_rounds(shift);
-        beat.pass(shift.rt);
+        shift.station.gauge.pass(beat.pass(shift.rt));
         wait_for_turn(shift, &beat);
         if shift.is_over() {
             break;
@@ -242,6 +242,10 @@ fn tick<S: StableStore, L: Begins, R: Wait + Eprint + Clock>(
     site.tell(shift.rt, slip.outputs())?;
     drop(slip);
     site.make_room(shift.rt)?;
+    shift
+        .station
+        .gauge
+        .show(shift.rt, site.status(node.number()));
     if own.bind_seconds > 0 {
         site.lose_unbound(shift.rt, own.bind_seconds);
     }

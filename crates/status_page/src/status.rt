@@ -3,6 +3,7 @@
 ghost use Rattle.std.specs.Prelude.{◌≡◌, []};
 ghost use Rattle.status_page.specs.Counts.{count_value, node_value};
 ghost use Rattle.status_page.specs.declared.count.Count.{Count};
+ghost use Rattle.status_page.specs.declared.node_count.NodeCount.{NodeCount};
 
 use crate::count::Count;
 use crate::node_count::NodeCount;
@@ -115,6 +116,34 @@ impl Status {
 }
 
 impl NodeStatus {
+    /// Nothing was counted of the node of this number.
+    pub fn none(number: u8) -> NodeStatus
+        ensures number { result.number ≡ number }
+        ensures counts { (count : NodeCount) → node_value result count ≡ 0 }
+    {
+        NodeStatus {
+            number,
+            serving: false,
+            incarnation: 0,
+            serials_left: 0,
+            unbound: 0,
+            transmitters: 0,
+            receivers: 0,
+            transceivers: 0,
+            requests: 0,
+            window: 0,
+            waiting: 0,
+            submits: 0,
+            refused: 0,
+            deliveries: 0,
+            packets: 0,
+            receipts: 0,
+            fates: 0,
+            ticks: 0,
+            tick_milliseconds: 0,
+        }
+    }
+
     /// The number that is counted.
     pub fn value(&self, count: NodeCount) -> u64
         ensures { result ≡ node_value self.now count }
