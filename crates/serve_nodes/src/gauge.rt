@@ -32,14 +32,14 @@ impl Gauge {
             .store(u64::from(incarnation), Ordering::SeqCst);
     }
 
-    /// Another tick is through, which took so many milliseconds with its rounds.
+    /// The rounds are through that its last tick began, so many milliseconds ago.
     pub fn pass(&self, taken: u64) {
-        let _ = self.ticks.fetch_add(1, Ordering::SeqCst);
         self.taken.store(taken, Ordering::SeqCst);
     }
 
-    /// This stands at its site.
+    /// Another tick came, behind which this stands at its site.
     pub fn show<R: Wait>(&self, rt: &R, site: NodeStatus) {
+        let _ = self.ticks.fetch_add(1, Ordering::SeqCst);
         let mut shown = self.site.lock(rt);
         *shown = site;
     }
