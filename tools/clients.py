@@ -10,6 +10,7 @@ PROGRAM is the built program, as crates/centre/out/centre. It is started as `PRO
     kannel     Kannel's bearerbox and smsbox (clients/kannel.py)
     plain      what those two never do, over plain sockets (clients/plain.py)
     restart    messages are submitted, `serve` is ended and started anew, then killed and started anew: what was told stays true (clients/restart.py)
+    status     over stores of its own: what the server tells of itself, asked with curl (clients/status.py)
     going_on   over stores of its own: ESMEs stay bound while parts of the journal are closed, and nodes start anew (clients/going_on.py)
 
 It installs nothing; `esme` needs Debian's libnet-smpp-perl, and `kannel` its kannel (apt-get install --no-install-recommends kannel libnet-smpp-perl). For
@@ -34,14 +35,16 @@ from plain_esme import Ended
 from ports import free_ports
 from restart import Halves
 from serving import ENDED, LINES, LISTENS, Serving
+from status import Status
 
 SECONDS = 600
 # Steps of the journal, after which `serve` ends.
 MOST_ENTRIES = 200_000
-PARTS = ("esme", "kannel", "plain", "restart", "going_on")
+PARTS = ("esme", "kannel", "plain", "restart", "status", "going_on")
 # What each part needs that is not Python's own: a command that succeeds if it is there, and the Debian package.
 NEEDED = {
     "esme": (["perl", "-MNet::SMPP", "-e", "1"], "libnet-smpp-perl"),
+    "status": (["curl", "--version"], "curl"),
     "kannel": (["test", "-x", "/usr/sbin/bearerbox", "-a", "-x", "/usr/sbin/smsbox"], "kannel"),
 }
 # What no line of the log may have: the passwords, and texts of messages.
@@ -63,22 +66,22 @@ def out_of_time(*_):
 
 
 def write_config(folder, changes=()):
-    """Writes the configuration with these changes, and gives the ports of its nodes."""
-    ports = free_ports(3)
+    """Writes the configuration with these changes, and gives the ports of its nodes and that of its status."""
+    *ports, status = free_ports(4)
     text = (CLIENTS / "centre.toml").read_text()
     for old, new in changes:
         text = text.replace(old, new)
-    for word, value in {"FOLDER": folder, **{f"NODE{node}": port for node, port in enumerate(ports, 1)}}.items():
+    for word, value in {"FOLDER": folder, "STATUS": status, **{f"NODE{node}": port for node, port in enumerate(ports, 1)}}.items():
         text = text.replace(f"@{word}@", str(value))
     (folder / "centre.toml").write_text(text)
-    return ports
+    return ports, status
 
 
 class Run:
     """The parts over one folder."""
 
     def __init__(self, program, folder):
-        self.checks, self.folder, self.ports = Checks(), folder, write_config(folder)
+        self.checks, self.folder, (self.ports, _) = Checks(), folder, write_config(folder)
         self.serving = Serving(program, folder / "centre.toml", folder)
         self.incarnation = 0
 
@@ -170,14 +173,28 @@ class Run:
                 self.client(part, sys.executable, str(CLIENTS / "plain.py"), first, second, third)
             case "restart":
                 self.restart()
+            case "status":
+                self.status()
             case "going_on":
                 self.going_on()
+
+    def status(self):
+        folder = self.folder / "status"
+        folder.mkdir()
+        ports, status = write_config(folder)
+        serving = Serving(self.serving.command[0], folder / "centre.toml", folder)
+        try:
+            self.checks.check("status.starts", serving.start(), serving.said)
+            Status(lambda name, *seen: self.checks.check(f"status.{name}", *seen), status, ports).run()
+            self.checks.check("status.ends_in_order", serving.end() == 0, serving.said)
+        finally:
+            serving.kill()
 
     def going_on(self):
         """Over stores of its own, with parts of 2,000 entries and a hundred message_ids in an incarnation."""
         folder = self.folder / "going_on"
         folder.mkdir()
-        ports = write_config(folder, [("first_serial = 101", "first_serial = 99900"), ("sessions = 20", "sessions = 20\npart_entries = 2000")])
+        ports, _ = write_config(folder, [("first_serial = 101", "first_serial = 99900"), ("sessions = 20", "sessions = 20\npart_entries = 2000")])
         serving = Serving(self.serving.command[0], folder / "centre.toml", folder)
         try:
             self.checks.check("going_on.starts", serving.start(), serving.said)

@@ -34,7 +34,7 @@ SOURCES = ("src", "specs", "proofs")
 # Crates of definitions and of laws, which have nothing to call; the programs; and the server, whose caller can't be short.
 CALLED_BY_NOBODY = {
     "mc_model", "mc_parts", "mc_laws", "node_model", "node_laws", "rest_laws", "table_laws", "arrival_laws", "node_runs", "journal_laws", "calm_laws", "world_fates",
-    "octet_laws", "script_text", "esme_site", "centre", "earlier_stores", "server",
+    "octet_laws", "script_text", "esme_site", "centre", "earlier_stores", "server", "serve_status",
 }
 
 

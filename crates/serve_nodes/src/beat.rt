@@ -45,10 +45,11 @@ impl Beat {
         begins_look
     }
 
-    /// The rounds are through that its last tick began.
-    pub fn pass<R: Clock>(&mut self, rt: &R) {
+    /// The rounds are through that its last tick began: how many milliseconds ago that was.
+    pub fn pass<R: Clock>(&mut self, rt: &R) -> u64 {
         let taken = self.ticked.gone(rt);
         self.gap = taken.saturating_mul(ROUNDS_IN_GAP).max(LEAST_GAP);
+        taken
     }
 
     /// How many milliseconds are left before it may tick at once.

@@ -1,7 +1,7 @@
 //! How far a node of a server is in its incarnation.
 
-ghost use Rattle.std.specs.Prelude.{◌≡◌, ◌≢◌, ◌↔◌, IsTrue};
-ghost use Rattle.serve_nodes.specs.Courses.{HasFew, begun_anew, counted, first, is_ticked, needed_for, served, through, ticked};
+ghost use Rattle.std.specs.Prelude.{◌≡◌, ◌≢◌, ◌↔◌, ◌-◌, IsTrue};
+ghost use Rattle.serve_nodes.specs.Courses.{HasFew, begun_anew, counted, first, is_ticked, needed_for, serials_from, served, through, ticked};
 ghost use Rattle.serve_nodes.specs.declared.course.Stage.TheVariants as stages;
 
 use mc_types::LAST_SERIAL;
@@ -135,6 +135,14 @@ impl Course {
         ensures { result ≡ self.now.need }
     {
         self.need
+    }
+
+    /// How many serials it has left of those from this one on, up to 99,999.
+    pub fn serials_left(&self, first_serial: u32) -> u64
+        ensures { result ≡ serials_from first_serial - self.now.serials }
+    {
+        let all = u64::from(LAST_SERIAL.saturating_sub(first_serial)).saturating_add(1);
+        all.saturating_sub(self.serials)
     }
 
     /// Whether few serials are left of those from this one on, 1 to 99,999: 10,000, or half of them if they are fewer than twice as many.

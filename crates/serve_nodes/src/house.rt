@@ -1,5 +1,6 @@
 //! What stays of a server through all parts of its journal.
 
+use crate::doors::StatusDoor;
 use crate::ending::{End, Ending};
 use crate::pace::Pace;
 use crate::station::{Station, Wake};
@@ -9,6 +10,7 @@ use connection_parts::{Tally, Timepiece};
 use mc_types::{Moment, NodeNo};
 use pdu_codec::SystemId;
 use serve_sessions::{Log, Notice, Reason, VisibleText, milliseconds, milliseconds_since};
+use status_page::Status;
 use std::alloc::{AllocError, Global};
 use std::rt::Clock;
 use std::sync::atomic::{AtomicBool, AtomicU64, Ordering};
@@ -30,6 +32,8 @@ pub struct House {
     pub stop: Arc<Stop>,
     pub counters: Counters,
     pub pace: Pace,
+    /// Where it tells of itself, if anywhere.
+    pub status_door: Option<StatusDoor>,
     /// When it began, by the clock that rises alone; none if that can't be read.
     pub begun: Option<Instant>,
     pub timepiece: Mutex<Timepiece>,
@@ -51,6 +55,10 @@ pub struct Counters {
     told: AtomicU64,
     /// How often there was no memory for what was asked for, since that was told.
     wants: AtomicU64,
+    /// How often it was told that there was none.
+    told_wants: AtomicU64,
+    /// How many ask what the server tells of itself.
+    asking: AtomicU64,
     /// Whether it was told that all nodes may be served.
     serves: AtomicBool,
     /// How many parts of the journal were closed, the entries of the last one and of all, and the final states that were told before it.
@@ -69,6 +77,8 @@ impl Counters {
             newest: AtomicU64::new(0),
             told: AtomicU64::new(0),
             wants: AtomicU64::new(0),
+            told_wants: AtomicU64::new(0),
+            asking: AtomicU64::new(0),
             serves: AtomicBool::new(false),
             parts: AtomicU64::new(0),
             entries: AtomicU64::new(0),
@@ -108,6 +118,20 @@ impl Counters {
         self.all_entries.load(Ordering::SeqCst)
     }
 
+    /// Somebody asks what the server tells of itself; false, and nobody does, if so many do already.
+    pub fn begin_asking(&self, most: u64) -> bool {
+        let is_let_in = self.asking.fetch_add(1, Ordering::SeqCst) < most;
+        if !is_let_in {
+            self.end_asking();
+        }
+        is_let_in
+    }
+
+    /// One who asked is through.
+    pub fn end_asking(&self) {
+        let _ = self.asking.fetch_sub(1, Ordering::SeqCst);
+    }
+
     /// Another session has ended: how many have.
     fn count_end(&self) -> u64 {
         self.ended.fetch_add(1, Ordering::SeqCst).saturating_add(1)
@@ -131,6 +155,9 @@ impl House {
         self.rouse();
         for station in &self.stations {
             station.entrance.wake();
+        }
+        if let Some(door) = &self.status_door {
+            door.entrance.wake();
         }
     }
 
@@ -363,12 +390,36 @@ impl House {
     /// Tells the operator how often there was no memory since this was told last, if that was so.
     pub fn tell_wants<R: Wait + Eprint + Clock>(&self, rt: &R) {
         let wants = self.counters.wants.swap(0, Ordering::SeqCst);
+        let _ = self.counters.told_wants.fetch_add(wants, Ordering::SeqCst);
         if wants > 0 {
             self.log.must_tell(
                 rt,
                 format_args!("memory: {wants} times there was not enough for what was asked for"),
             );
         }
+    }
+
+    /// What the server tells of itself. It takes no lock that is held for long: of sites it has what stood there behind the last ticks. An `Err` is want of
+    /// memory.
+    pub fn status<R: Wait + Clock>(&self, rt: &R) -> Result<Status, AllocError> {
+        let mut nodes = Vec::with_capacity(self.alloc, self.stations.len())?;
+        for station in &self.stations {
+            nodes.push(station.status(rt, self.config.first_serial))?;
+        }
+        let counters = &self.counters;
+        let wants = counters.wants.load(Ordering::SeqCst);
+        Ok(Status {
+            serving: counters.serves.load(Ordering::SeqCst) && !self.is_over(rt),
+            seconds: milliseconds_since(rt, &self.begun) / 1_000,
+            connections: counters.connections.load(Ordering::SeqCst),
+            ended: counters.ended.load(Ordering::SeqCst),
+            packets: self.newest(),
+            parts: counters.parts(),
+            entries: self.pace.entries(),
+            closed_entries: counters.all_entries(),
+            wants: wants.saturating_add(counters.told_wants.load(Ordering::SeqCst)),
+            nodes,
+        })
     }
 
     /// Tells the operator what went on so far.

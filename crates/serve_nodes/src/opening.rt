@@ -6,6 +6,7 @@ use crate::bell::Bell;
 use crate::course::Course;
 use crate::doors::Doors;
 use crate::ending::End;
+use crate::gauge::Gauge;
 use crate::house::{Counters, House};
 use crate::pace::Pace;
 use crate::rounds::Rounds;
@@ -34,7 +35,11 @@ pub fn house_of<R: Clock>(
     ensures config { IfOk result (λ house. house.config ≡ settings.config) }
     ensures limits { IfOk result (λ house. house.own ≡ settings.own) }
 {
-    let Doors { entrances, lives } = doors;
+    let Doors {
+        entrances,
+        lives,
+        status,
+    } = doors;
     let Settings {
         config,
         own,
@@ -50,6 +55,7 @@ pub fn house_of<R: Clock>(
         end: End::none(),
         stop,
         counters: Counters::none(),
+        status_door: status,
         pace: Pace::of(own),
         begun: Instant::now(rt).ok(),
         timepiece: Mutex::new(Timepiece::make(0, milliseconds(rt))),
@@ -84,6 +90,7 @@ fn stations_of<R: Clock>(
             bell: Bell::silent(),
             news: Signal::silent(),
             life: Mutex::new(lives.pop_front()),
+            gauge: Gauge::none(node),
         })?;
     }
     Ok(stations)

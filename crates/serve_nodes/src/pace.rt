@@ -45,6 +45,11 @@ impl Pace {
             .is_some_and(|many| before < many && number >= many)
     }
 
+    /// How many entries the part has.
+    pub fn entries(&self) -> u64 {
+        self.entries.load(Ordering::SeqCst)
+    }
+
     /// Whether no delivery is to be begun.
     pub fn holds(&self) -> bool {
         self.is_behind(0)

@@ -16,7 +16,8 @@ use mc_types::{Moment, MsgId, Slot};
 use node_core::{MayBegin, MessageIds, Outputs, Reach};
 use pdu_codec::SystemId;
 use serve_sessions::{Arrival, Berth, Connection, Mark, Reason, Whom};
-use sessions::{Delivery, Pushed, WINDOW};
+use sessions::{Delivery, Pushed, Session, SessionState, WINDOW};
+use status_page::NodeStatus;
 use std::alloc::{AllocError, Global};
 use std::collections::BTreeMap;
 use std::rt::Clock;
@@ -139,6 +140,42 @@ impl Site {
         if moment.seconds() > self.clock.seconds() {
             self.clock = moment;
         }
+    }
+
+    /// What is told of it, at the node of this number.
+    pub fn status(&self, number: u8) -> NodeStatus {
+        let Tally {
+            submits,
+            deliveries,
+            receipts,
+            refused,
+            fates,
+        } = self.tally;
+        let mut status = NodeStatus {
+            submits,
+            deliveries,
+            receipts,
+            refused,
+            fates,
+            waiting: self.lined_up(),
+            ..NodeStatus::none(number)
+        };
+        for (_, session) in self.service.sessions() {
+            count_session(&mut status, session);
+        }
+        status
+    }
+
+    /// How many messages wait for a worker of accounts of which a session may receive; 0 if there is no memory to look.
+    fn lined_up(&self) -> u64 {
+        let Ok(up) = self.service.accounts_up() else {
+            return 0;
+        };
+        let mut waiting = 0u64;
+        for account in &up {
+            waiting = waiting.saturating_add(self.lanes.count(account) as u64);
+        }
+        waiting
     }
 
     // What goes out.
@@ -589,6 +626,21 @@ impl Site {
         }
         waiting
     }
+}
+
+/// Counts a session in what is told.
+fn count_session(status: &mut NodeStatus, session: &Session) {
+    match session.state() {
+        SessionState::Fresh => status.unbound = status.unbound.saturating_add(1),
+        SessionState::Transmitter => status.transmitters = status.transmitters.saturating_add(1),
+        SessionState::Receiver => status.receivers = status.receivers.saturating_add(1),
+        SessionState::Transceiver => status.transceivers = status.transceivers.saturating_add(1),
+        SessionState::Gone => {}
+    }
+    let requests = session.requests().len() as u64;
+    let window = session.pushed().len() as u64;
+    status.requests = status.requests.saturating_add(requests);
+    status.window = status.window.saturating_add(window);
 }
 
 /// Under which number a delivery is kept, if it is that of an attempt.

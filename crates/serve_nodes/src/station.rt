@@ -2,13 +2,15 @@
 
 use crate::bell::Bell;
 use crate::course::{Course, Need};
+use crate::gauge::Gauge;
 use crate::rounds::Rounds;
 use crate::site::Site;
 use crossbeam_channel::{Receiver, Sender};
 use mc_types::NodeNo;
 use node_core::Life;
 use serve_sessions::{Entrance, Signal};
-use std::sync::atomic::AtomicU64;
+use status_page::NodeStatus;
+use std::sync::atomic::{AtomicU64, Ordering};
 use std::sync::{Mutex, Wait};
 
 /// What wakes the thread that hands in a node's packets.
@@ -40,6 +42,8 @@ pub struct Station {
     pub news: Signal,
     /// Its life, unless its thread has it.
     pub life: Mutex<Option<Life>>,
+    /// What is told of it.
+    pub gauge: Gauge,
 }
 
 impl Station {
@@ -58,6 +62,17 @@ impl Station {
     pub fn rouse(&self) {
         self.news.ring();
         self.bell.ring();
+    }
+
+    /// What is told of it, whose incarnations begin with this serial.
+    pub fn status<R: Wait>(&self, rt: &R, first_serial: u32) -> NodeStatus {
+        let course = self.course_now(rt);
+        NodeStatus {
+            serving: course.serves(),
+            serials_left: course.serials_left(first_serial),
+            packets: self.next.load(Ordering::SeqCst).saturating_sub(1),
+            ..self.gauge.status(rt)
+        }
     }
 
     /// Wakes the thread that hands in its packets. If there is no memory for it, the next one that wakes it tells of these packets, too.

@@ -24,6 +24,8 @@ pub enum ServeFault {
     Stores(StoresFault),
     /// A node can't listen here, for this reason of the system.
     Listen(SocketAddrV4, io::Error),
+    /// The server can't tell of itself here, for this reason of the system.
+    Status(SocketAddrV4, io::Error),
     /// There was no memory to begin.
     Memory,
     /// It ended, for this reason, which is not that it was asked to.
@@ -61,6 +63,9 @@ impl fmt::Display for ServeFault {
             ServeFault::Stores(fault) => write!(f, "{fault}"),
             ServeFault::Listen(address, error) => {
                 write!(f, "no node can listen on {address}: {error}")
+            }
+            ServeFault::Status(address, error) => {
+                write!(f, "the status can't be served on {address}: {error}")
             }
             ServeFault::Memory => f.write_str("there was not enough memory"),
             ServeFault::Ended(Ending::Asked) => f.write_str("it was asked to end"),

@@ -9,10 +9,13 @@ use cluster_stores::StoresFault;
 use config::{Config, ConfigFault, NodeConfig, Own, read_config, read_own};
 use config_warnings::warnings;
 use node_stores::NodeStore;
-use server::{Defaults, Entrance, Life, Loaded, Node, StartFault, begin_nodes, load_nodes};
+use server::{
+    Defaults, Entrance, Life, Loaded, Node, StartFault, StatusDoor, begin_nodes, load_nodes,
+};
 use std::alloc::{AllocError, Global};
+use std::hash::RandomState;
 use std::net::{Net, SocketAddr, SocketAddrV4, TcpListener, TcpStream};
-use std::rt::Files;
+use std::rt::{Files, HostRuntime};
 use std::{fs, io};
 use toml::Value;
 
@@ -156,6 +159,35 @@ pub(crate) fn listen_all<R: Net<Listener = TcpListener, Stream = TcpStream>>(
         }
     }
     Ok(entrances)
+}
+
+/// Where the server tells of itself, if this address says it. Status tells that it can't be listened on.
+pub(crate) fn open_status<R: Net<Listener = TcpListener, Stream = TcpStream>>(
+    rt: &R,
+    host: &HostRuntime,
+    alloc: Global,
+    address: Option<SocketAddrV4>,
+) -> Result<Option<StatusDoor>, ServeFault> {
+    let Some(address) = address else {
+        return Ok(None);
+    };
+    match status_at(rt, host, alloc, address) {
+        Ok(door) => Ok(Some(door)),
+        Err(error) => Err(ServeFault::Status(address, error)),
+    }
+}
+
+/// Where the server tells of itself, at this address.
+fn status_at<R: Net<Listener = TcpListener, Stream = TcpStream>>(
+    rt: &R,
+    host: &HostRuntime,
+    alloc: Global,
+    address: SocketAddrV4,
+) -> io::Result<StatusDoor> {
+    Ok(StatusDoor {
+        entrance: listen_at(rt, alloc, address)?,
+        keys: RandomState::new(host)?,
+    })
 }
 
 /// Where a node listens, at this address.

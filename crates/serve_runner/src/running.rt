@@ -8,7 +8,7 @@ ghost use Rattle.serve_runner.specs.Beginnings.{defaults_in};
 
 use crate::asked::Options;
 use crate::fault::ServeFault;
-use crate::opening::{Configured, begin_all, listen_all, load_all, read_file};
+use crate::opening::{Configured, begin_all, listen_all, load_all, open_status, read_file};
 use crate::standard::fill_standard;
 use crate::version::PROGRAM;
 use cluster_stores::open_stores;
@@ -84,6 +84,7 @@ fn serve_by<
     };
     let loaded = load_all(alloc, stores, defaults)?;
     let entrances = listen_all(rt, alloc, &config.nodes)?;
+    let status = open_status(rt, host, alloc, own.status)?;
     let (nodes, lives) = begin_all(alloc, loaded)?;
     tell_start(rt, &config, &lives);
     let _ = rt.eprint(warned.as_str());
@@ -92,7 +93,11 @@ fn serve_by<
         blank: Blank::new(MOST_SEATS),
         nodes,
     };
-    let doors = Doors { entrances, lives };
+    let doors = Doors {
+        entrances,
+        lives,
+        status,
+    };
     let settings = Settings {
         config,
         own,

@@ -20,20 +20,31 @@ pub enum Client {
     Stubborn,
     /// It binds as a transmitter, and submits so many messages, 150 milliseconds apart.
     Steady(u32),
+    /// It binds, and asks what the server tells of itself, while another connection of its own says nothing there.
+    Asking,
+}
+
+/// Where a server listens: its node, and where it tells of itself.
+#[derive(Clone, Copy, Debug)]
+pub struct Addresses {
+    pub node: SocketAddr,
+    pub status: SocketAddr,
 }
 
 impl Client {
-    /// What it hears: all, or what comes after each submit_sm.
+    /// What it hears: all, or what comes after each submit_sm, or the answer to each question.
     pub fn heard<R: Abort + Clock + Net<Listener = TcpListener, Stream = TcpStream>>(
         self,
         rt: &R,
         alloc: Global,
-        address: SocketAddr,
+        addresses: Addresses,
     ) -> Vec<Vec<u8>> {
+        let address = addresses.node;
         match self {
             Client::Plain => talked(rt, alloc, address, &PLAIN),
             Client::Stubborn => talked(rt, alloc, address, &STUBBORN),
             Client::Steady(count) => submitted(rt, alloc, address, count),
+            Client::Asking => asked(rt, alloc, addresses),
         }
     }
 }
@@ -106,6 +117,67 @@ fn submitted<R: Abort + Clock + Net<Listener = TcpListener, Stream = TcpStream>>
         thread::sleep(rt, Duration::from_millis(PAUSE));
     }
     heard
+}
+
+/// What is asked whether the server serves.
+const READY: &[u8] = b"GET /ready HTTP/1.1\r\nHost: localhost\r\n\r\n";
+
+/// What is asked for the metrics.
+const METRICS: &[u8] = b"GET /metrics HTTP/1.1\r\nHost: localhost\r\n\r\n";
+
+/// More octets than an answer has.
+const MOST_OCTETS: usize = 100_000;
+
+/// A line of the metrics of a node with one session, which is bound as transceiver.
+pub const ONE_BOUND: &[u8] = b"\ntomveul_node_sessions_transceiver{node=\"1\"} 1\n";
+
+/// How often is asked, 100 milliseconds apart, before a session is not told of.
+const MOST_QUESTIONS: u32 = 50;
+
+/// Whether the server serves, and the metrics once they tell of the session of the client.
+fn asked<R: Abort + Clock + Net<Listener = TcpListener, Stream = TcpStream>>(
+    rt: &R,
+    alloc: Global,
+    addresses: Addresses,
+) -> Vec<Vec<u8>> {
+    let silent = TcpStream::connect(rt, addresses.status).expect(rt, "a connection");
+    let mut stream = TcpStream::connect(rt, addresses.node).expect(rt, "a connection");
+    stream.write_all(BIND).expect(rt, "a write");
+    let mut bound = Vec::new(alloc);
+    let _ = read_on(rt, &mut stream, &mut bound, BOUND.len());
+    let mut heard = Vec::new(alloc);
+    let ready = answer_to(rt, alloc, addresses.status, READY);
+    heard.push(ready).expect(rt, "memory");
+    for _ in 0..MOST_QUESTIONS {
+        let metrics = answer_to(rt, alloc, addresses.status, METRICS);
+        let is_told = has(&metrics, ONE_BOUND);
+        heard.push(metrics).expect(rt, "memory");
+        if is_told {
+            break;
+        }
+        thread::sleep(rt, Duration::from_millis(100));
+    }
+    drop(silent);
+    heard
+}
+
+/// Whether octets have these in them.
+pub fn has(octets: &[u8], piece: &[u8]) -> bool {
+    (0..octets.len()).any(|place| octets[place..].starts_with(piece))
+}
+
+/// What is answered to a question, up to the end of the connection.
+fn answer_to<R: Abort + Net<Listener = TcpListener, Stream = TcpStream>>(
+    rt: &R,
+    alloc: Global,
+    address: SocketAddr,
+    question: &[u8],
+) -> Vec<u8> {
+    let mut stream = TcpStream::connect(rt, address).expect(rt, "a connection");
+    stream.write_all(question).expect(rt, "a write");
+    let mut answer = Vec::new(alloc);
+    let _ = read_on(rt, &mut stream, &mut answer, MOST_OCTETS);
+    answer
 }
 
 /// All that a client hears that takes these turns.

@@ -5,15 +5,17 @@ ghost use Rattle.node_threads.specs.Actions.{AllBegin};
 ghost use Rattle.node_threads.specs.Openings.{cluster_of, kept_at};
 ghost use Rattle.serve_tests.specs.Beginnings.{defaults_in};
 
-use crate::clients::Client;
+use crate::clients::{Addresses, Client};
 use config::{Config, Own};
 use node_threads::{Defaults, Life, Node, open_nodes, opened_nodes_begin};
-use server::{Beginning, Doors, Ending, Entrance, Served, Settings, Stop, serve};
+use server::{Beginning, Doors, Ending, Entrance, Served, Settings, StatusDoor, Stop, serve};
 use stable_store::StableStore;
 use std::alloc::Global;
+use std::hash::RandomState;
 use std::marker::Brand;
 use std::net::{Net, SocketAddr, TcpListener, TcpStream};
 use std::process::Abort;
+use std::random::RandomSource;
 use std::rt::Clock;
 use std::sync::ledger::Blank;
 use std::sync::{Arc, Wait};
@@ -108,18 +110,26 @@ fn defaults_of(rt: &impl Abort, config: &Config) -> Defaults
     Defaults::make(config.first_serial, config.default_validity).expect(rt, "defaults")
 }
 
+/// Where a server listens: at its node, and where it tells of itself.
+#[derive(Drop)]
+struct Listening {
+    entrance: Entrance,
+    status: StatusDoor,
+}
+
 /// A server over this store, which listens here.
 fn made<S: StableStore + Drop>(
     rt: &impl Abort,
     alloc: Global,
     store: S,
-    entrance: Entrance,
+    listening: Listening,
     case: Case,
 ) -> Opening<S>
     ensures parts { result.beginning.blank.parts ≡ 1000000 }
     ensures begin { AllBegin (cluster_of result.beginning.nodes.items (defaults_in result.settings.config))
         (kept_at result.beginning.nodes.items (defaults_in result.settings.config)) result.beginning.nodes.items }
 {
+    let Listening { entrance, status } = listening;
     let mut entrances = Vec::new(alloc);
     entrances.push(entrance).expect(rt, "memory");
     let settings = settings(rt, alloc, case);
@@ -130,7 +140,11 @@ fn made<S: StableStore + Drop>(
             blank: Blank::new(PARTS),
             nodes,
         },
-        doors: Doors { entrances, lives },
+        doors: Doors {
+            entrances,
+            lives,
+            status: Some(status),
+        },
         settings,
     }
 }
@@ -167,6 +181,35 @@ fn finished<S: StableStore + Send + Sync + Drop, R: Threads + Wait + Eprint + Cl
     }
 }
 
+/// A server listens on ports that are free: where, and at which addresses.
+fn free_ports<R: Abort + Net<Listener = TcpListener, Stream = TcpStream> + RandomSource>(
+    rt: &R,
+    alloc: Global,
+) -> (Listening, Addresses) {
+    let (entrance, node) = open_port(rt, alloc);
+    let (asked, status) = open_port(rt, alloc);
+    let door = StatusDoor {
+        entrance: asked,
+        keys: RandomState::new(rt).expect(rt, "keys"),
+    };
+    let listening = Listening {
+        entrance,
+        status: door,
+    };
+    (listening, Addresses { node, status })
+}
+
+/// An entrance on a port that is free, and its address.
+fn open_port<R: Abort + Net<Listener = TcpListener, Stream = TcpStream>>(
+    rt: &R,
+    alloc: Global,
+) -> (Entrance, SocketAddr) {
+    let listener = TcpListener::bind(rt, "127.0.0.1:0").expect(rt, "a port");
+    let address = listener.local_addr().expect(rt, "an address");
+    let entrance = Entrance::open(rt, alloc, listener).expect(rt, "an entrance");
+    (entrance, address)
+}
+
 /// What the client of a case hears, and how the server ends over this store once its session has.
 pub fn served<
     S: StableStore + Send + Sync + Drop,
@@ -176,12 +219,11 @@ pub fn served<
         + Clock
         + Abort
         + Net<Listener = TcpListener, Stream = TcpStream>
+        + RandomSource
         + Sync,
 >(rt: &R, alloc: Global, store: S, case: Case) -> (Vec<Vec<u8>>, Ended) {
-    let listener = TcpListener::bind(rt, "127.0.0.1:0").expect(rt, "a port");
-    let address = listener.local_addr().expect(rt, "an address");
-    let entrance = Entrance::open(rt, alloc, listener).expect(rt, "an entrance");
-    let start = made(rt, alloc, store, entrance, case);
+    let (listening, addresses) = free_ports(rt, alloc);
+    let start = made(rt, alloc, store, listening, case);
     thread::scope(
         thread::scope_env(),
         rt,
@@ -190,7 +232,7 @@ pub fn served<
                 × AllBegin (cluster_of start.beginning.nodes.items (defaults_in start.settings.config))
                 (kept_at start.beginning.nodes.items (defaults_in start.settings.config)) start.beginning.nodes.items }
         {
-            let client = scope.spawn(move || case.client.heard(rt, alloc, address));
+            let client = scope.spawn(move || case.client.heard(rt, alloc, addresses));
             let ended = finished(rt, alloc, start);
             match client {
                 Ok(client) => (client.join(rt), ended),

@@ -21,6 +21,6 @@ pub use mc_types::LAST_INCARNATION;
 pub use node_workers::{
     Defaults, Life, Loaded, MOST_SEATS, Node, StartFault, begin_nodes, load_nodes,
 };
-pub use serve_nodes::{Doors, Ending, Settings, Stop};
+pub use serve_nodes::{Doors, Ending, Settings, StatusDoor, Stop};
 pub use serve_sessions::{Entrance, Stamp, stamp_now};
 pub use serving::{Beginning, Served, serve};

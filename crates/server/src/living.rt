@@ -64,6 +64,7 @@ fn live<
     R: Threads + Wait + Eprint + Clock + Sync,
 >(rt: &R, shared: &Shared<S, L>, station: &Station, life: &Life) {
     station.site.lock(rt).go_on();
+    station.gauge.live(life.incarnation().number());
     thread::scope(thread::scope_env(), rt, |scope| {
         let shift = Shift {
             rt,

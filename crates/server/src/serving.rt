@@ -6,7 +6,7 @@ ghost use Rattle.node_workers.specs.Actions.{AllBegin};
 ghost use Rattle.node_workers.specs.Histories.{ClosesKept, ClosesParts};
 
 use crate::parts::serve_parts;
-use crate::starting::{start_listeners, start_log};
+use crate::starting::{start_listeners, start_log, start_status};
 use node_workers::{Begins, Cluster, Journal, Node, all_parts_are_one};
 use serve_nodes::{Doors, Ending, House, Settings, house_of};
 use stable_store::StableStore;
@@ -80,6 +80,7 @@ fn serve_over<
         {
             start_log(rt, outer, house);
             start_listeners(rt, outer, house);
+            start_status(rt, outer, house);
             let served = serve_parts(rt, house, cluster);
             house.end_all(rt);
             house.log.shut(rt);

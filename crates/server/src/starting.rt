@@ -11,6 +11,7 @@ use crate::working::work;
 use node_workers::Begins;
 use serve_nodes::{Ending, House, Station};
 use serve_sessions::{Arrival, Connection, Reason, WORKERS, read_all};
+use serve_status::tell_on;
 use stable_store::StableStore;
 use std::alloc::{AllocError, Global};
 use std::rt::Clock;
@@ -26,6 +27,21 @@ pub(crate) fn start_log<'o, O, R: Threads + Wait + Eprint + Clock + Sync>(
     house: &'o House,
 ) {
     match outer.spawn(move || house.log.write_all(rt)) {
+        Ok(_) => {}
+        Err(_) => house.end_by(rt, Ending::Threads),
+    }
+}
+
+/// Starts the thread that tells of the server, if it is to. If it can't be started, the server ends.
+pub(crate) fn start_status<'o, O, R: Threads + Wait + Eprint + Clock + Sync>(
+    rt: &'o R,
+    outer: &'o Scope<'o, O>,
+    house: &'o House,
+) {
+    let Some(door) = &house.status_door else {
+        return;
+    };
+    match outer.spawn(move || tell_on(rt, outer, house, door)) {
         Ok(_) => {}
         Err(_) => house.end_by(rt, Ending::Threads),
     }

@@ -3,7 +3,7 @@
 use crate::shift::{FEW_LOOKS, Shift, ring};
 use crate::trouble::Trouble;
 use node_workers::{Action, Begins, Seat};
-use serve_nodes::{Beat, Ending, Need};
+use serve_nodes::{Beat, Ending, Need, Site};
 use serve_sessions::Mark;
 use stable_store::StableStore;
 use std::rt::Clock;
@@ -87,7 +87,7 @@ pub(crate) fn tick_on<S: StableStore, L: Begins, R: Wait + Eprint + Clock>(
     let mut beat = Beat::begin(shift.rt);
     for _ in shift.rt.forever() {
         wait_for_rounds(shift);
-        beat.pass(shift.rt);
+        shift.station.gauge.pass(beat.pass(shift.rt));
         wait_for_turn(shift, &beat);
         if shift.is_over() {
             break;
@@ -241,13 +241,25 @@ fn tick<S: StableStore, L: Begins, R: Wait + Eprint + Clock>(
     site.pass(moment);
     site.tell(shift.rt, slip.outputs())?;
     drop(slip);
-    site.make_room(shift.rt)?;
-    if own.bind_seconds > 0 {
-        site.lose_unbound(shift.rt, own.bind_seconds);
-    }
+    tidy(shift, site)?;
     shift.feed(site)?;
     if begins_look || site.fed().is_some() {
         shift.look(site, FEW_LOOKS)?;
     }
+    Ok(())
+}
+
+/// What was pushed and waits too long is given up, those are lost who do not bind in time, and what stands at the site is told from now on.
+fn tidy<S: StableStore, L: Begins, R: Wait + Eprint + Clock>(
+    shift: &Shift<'_, S, L, R>,
+    site: &mut Site,
+) -> Result<(), Trouble> {
+    site.make_room(shift.rt)?;
+    let seconds = shift.shared.house.own.bind_seconds;
+    if seconds > 0 {
+        site.lose_unbound(shift.rt, seconds);
+    }
+    let status = site.status(shift.node().number());
+    shift.station.gauge.show(shift.rt, status);
     Ok(())
 }
