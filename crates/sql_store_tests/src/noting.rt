@@ -100,7 +100,8 @@ fn notes_are_loaded_beside_records(rt: HostRuntime) {
     let wanted = (one, Err(StoreFault::Damaged), Err(StoreFault::Damaged));
     let record = Some((1000100001, 0, 262161, 262161));
     assert_same(&rt, &(saved, first, second), &(None, None, None));
-    assert_same(&rt, &(before, after), &(wanted, wanted));
+    assert_same(&rt, &before, &wanted);
+    assert_same(&rt, &after, &wanted);
     assert_same(&rt, &(records, failures), &(Ok((1, record, record)), 0));
 }
 
