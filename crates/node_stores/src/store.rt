@@ -1,6 +1,7 @@
 //! A node's store, on disk or in memory.
 
 use mc_types::Incarnation;
+use noting_store::{Note, NotingStore};
 use sql_store::SqlStore;
 use sqlite::{File, FileStore, MemStore};
 use stable_store::{GroupStore, StableStore, StoreFault};
@@ -91,6 +92,27 @@ impl GroupStore for NodeStore {
         match self {
             NodeStore::OnDisk(store) => store.save_all(changes),
             NodeStore::InMemory(store) => store.save_all(changes),
+        }
+    }
+}
+
+impl NotingStore for NodeStore {
+    ghost use Rattle.node_stores.specs.Stores.{may_know_in};
+
+    ghost may_know = { may_know_in };
+
+    /// A new store in memory, and a file of an earlier program, keep no notes: nothing is done.
+    fn note(&mut self, notes: &[Note]) -> Result<(), StoreFault> {
+        match self {
+            NodeStore::OnDisk(store) => store.note(notes),
+            NodeStore::InMemory(store) => store.note(notes),
+        }
+    }
+
+    fn load_noted(&mut self, nodes: u8) -> Result<Vec<Note>, StoreFault> {
+        match self {
+            NodeStore::OnDisk(store) => store.load_noted(nodes),
+            NodeStore::InMemory(store) => store.load_noted(nodes),
         }
     }
 }

@@ -21,3 +21,8 @@ pub mod SlotOrder
 pub mod TableLemmas
 pub mod CreateLemmas
 pub mod MakeLemmas
+pub mod KnownTexts
+pub mod KnownSchemas
+pub mod KnownPuts
+pub mod KnownStates
+pub mod KnownReads

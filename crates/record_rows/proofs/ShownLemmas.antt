@@ -11,7 +11,7 @@ use Rattle.sqlite.specs.Order.{Row, column}
 use Rattle.record_rows.specs.declared.row.SlotRow.{SlotRow}
 use Rattle.record_rows.specs.Content.{Slot, Entry, entry_of, slot_of, values_of, IsShownAs, AreShownAs, is_below, AreAscending}
 
-all_zip-push : {A B : Type 0} (R : A → B → Type 0) (xs : List A) (ys : List B) (x : A) (y : B) → AllZip R xs ys → R x y
+pub all_zip-push : {A B : Type 0} (R : A → B → Type 0) (xs : List A) (ys : List B) (x : A) (y : B) → AllZip R xs ys → R x y
     → AllZip R (xs ++ x ∷ []) (ys ++ y ∷ [])
 all_zip-push R [] [] x y all one = (one, tt)
 all_zip-push R [] (b ∷ ys) x y all one = absurd all

@@ -8,3 +8,4 @@ pub mod Found
 pub mod Added
 pub mod Whose
 pub mod Silent
+pub mod Known

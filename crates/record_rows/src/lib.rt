@@ -1,10 +1,12 @@
-//! The two tables of a node's store as raw rows over `sqlite`: made, recognised, read and written.
+//! The two tables of a node's store, and `known` beside them, as raw rows over `sqlite`: made, recognised, read and written.
 #![tactic(auto)]
 
 mod adding;
 mod beside;
 mod fault;
 mod group;
+mod known;
+mod known_row;
 mod life;
 mod making;
 mod probe;
@@ -16,6 +18,8 @@ mod whose;
 pub use adding::{add_life, add_slots};
 pub use fault::{Fault, ReadFault};
 pub use group::put_slots;
+pub use known::{has_known, put_known, read_known};
+pub use known_row::KnownRow;
 pub use life::{put_incarnation, read_incarnation};
 pub use making::make_tables;
 pub use row::SlotRow;

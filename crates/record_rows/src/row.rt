@@ -33,7 +33,7 @@ pub(crate) fn number_at(row: &Row, at: usize) -> Result<i64, ReadFault>
     }
 }
 
-fn chain_at(alloc: Global, row: &Row, at: usize) -> Result<Vec<u8>, ReadFault>
+pub(crate) fn chain_at(alloc: Global, row: &Row, at: usize) -> Result<Vec<u8>, ReadFault>
     ensures ok { IfOk result (λ chain. column row.now at ≡ Blob chain.items) }
     ensures damaged { result ≡ Err Damaged → (chain : _) → column row.now at ≡ Blob chain → ⊥ }
     ensures faults { IfErr result (λ e. (e ≡ Damaged) ⊎ (e ≡ Failed Memory)) }

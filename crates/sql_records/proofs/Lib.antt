@@ -5,3 +5,7 @@ pub mod CallLemmas
 pub mod NextLemmas
 pub mod Laws
 pub mod Exits
+pub mod NoteStandings
+pub mod VoterSets
+pub mod NoteRows
+pub mod NoteExits

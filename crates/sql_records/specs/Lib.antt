@@ -1,3 +1,4 @@
 pub mod Standing
 pub mod Stores
 pub mod Calls
+pub mod Noting

@@ -3,7 +3,11 @@
 
 mod calls;
 mod fault;
+mod note_row;
+mod notes;
 mod row;
+mod voters;
 
 pub use calls::{load_records, raise_incarnation, save_record, save_records};
 pub use fault::NextFault;
+pub use notes::{load_notes, save_notes};

@@ -119,7 +119,7 @@ fn report_in(alloc: Global, slot: Slot, row: &SlotRow) -> Result<Report, ReadFau
 }
 
 /// The record that a row stands for. It is damaged exactly if it stands for none.
-fn record_of(alloc: Global, row: &SlotRow) -> Result<Record, ReadFault>
+pub(crate) fn record_of(alloc: Global, row: &SlotRow) -> Result<Record, ReadFault>
     ensures ok { IfOk result (StandsFor (entry_of row.now)) }
     ensures damaged { result ≡ Err Damaged → StandsForNone (entry_of row.now) }
     ensures faults { IfErr result (λ fault. (fault ≡ Damaged) ⊎ (fault ≡ Failed Memory)) }

@@ -4,8 +4,11 @@ use crate::filling::fill_tables;
 use crate::order::Order;
 use crate::settling::{count, settle};
 use mc_types::Incarnation;
+use noting_store::{Note, NotingStore};
 use record_rows::ReadFault;
-use sql_records::{NextFault, load_records, raise_incarnation, save_record, save_records};
+use sql_records::{
+    NextFault, load_notes, load_records, raise_incarnation, save_notes, save_record, save_records,
+};
 use sqlite::{Alter, Connection, Error, ErrorCode, File, FileStore, MemStore};
 use sqlite_trees::store::Store;
 use stable_store::{GroupStore, StableStore, StoreFault};
@@ -231,6 +234,38 @@ impl<S: Alter> GroupStore for SqlStore<S> {
         match save_records(self.alloc, &mut self.conn, changes) {
             Ok(()) => Ok(()),
             Err(fault) => Err(settle(&mut self.spent, &mut self.failed, fault)),
+        }
+    }
+}
+
+impl<S: Alter> NotingStore for SqlStore<S> {
+    ghost use Rattle.sqlite.specs.Held.{state};
+    ghost use Rattle.sql_records.specs.Noting.{may_know_over};
+
+    ghost may_know = { λ s n. may_know_over (state S.Store s.conn) n };
+
+    /// A database without the table `known`, as of an earlier program, keeps no notes: nothing is done.
+    fn note(&mut self, notes: &[Note]) -> Result<(), StoreFault> {
+        if notes.is_empty() {
+            return Ok(());
+        }
+        if self.spent {
+            return Err(count(&mut self.failed));
+        }
+        match save_notes(self.alloc, &mut self.conn, notes) {
+            Ok(()) => Ok(()),
+            Err(fault) => Err(settle(&mut self.spent, &mut self.failed, fault)),
+        }
+    }
+
+    fn load_noted(&mut self, nodes: u8) -> Result<Vec<Note>, StoreFault> {
+        if self.spent {
+            return Err(count(&mut self.failed));
+        }
+        match load_notes(self.alloc, &mut self.conn, nodes) {
+            Ok(notes) => Ok(notes),
+            Err(ReadFault::Damaged) => Err(StoreFault::Damaged),
+            Err(ReadFault::Failed(fault)) => Err(settle(&mut self.spent, &mut self.failed, fault)),
         }
     }
 }

@@ -10,6 +10,8 @@ mod large;
 #[cfg(test)]
 mod looking;
 #[cfg(test)]
+mod noting;
+#[cfg(test)]
 mod same;
 #[cfg(test)]
 mod steps;

@@ -11,7 +11,7 @@ use std::process::Abort;
 use synod_acceptor::{Change, Record, Report, Vote};
 
 // The chain of one Taken on message 1000100001: from 144 to 155, with the text Hi.
-const TAKEN: &[u8] =
+pub const TAKEN: &[u8] =
     b"\x01\x00\x00\x00\x00\x3b\x9c\x50\xa1\x00\x01\x01\x01\x00\x01\x38\x6d\x43\x80\x04sme1\x04sme1\x00\x01\x01\x03144\x01\x01\x03155\x00\x00\x00\x01\x00\x38\x6d\x43\x80\x38\x71\x38\x00\x02Hi\x00\x00";
 
 // What is loaded of a record: the id and the place of its slot, its promise, and the ballot of its vote or 0.
