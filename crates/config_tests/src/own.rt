@@ -105,7 +105,15 @@ fn what_is_no_address_of_the_status_is_told(rt: HostRuntime) {
     assert_same(&rt, &own_in(alloc, "[own]\nstatus = 9090\n"), &bad);
     assert_same(&rt, &own_in(alloc, "[own]\nstatus = \"\"\n"), &bad);
     assert_same(&rt, &own_in(alloc, "[own]\nstatus = \":9090\"\n"), &bad);
-    assert_same(&rt, &own_in(alloc, "[own]\nstatus = \"localhost:9090\"\n"), &bad);
-    assert_same(&rt, &own_in(alloc, "[own]\nstatus = \"127.0.0.1:65536\"\n"), &bad);
+    assert_same(
+        &rt,
+        &own_in(alloc, "[own]\nstatus = \"localhost:9090\"\n"),
+        &bad,
+    );
+    assert_same(
+        &rt,
+        &own_in(alloc, "[own]\nstatus = \"127.0.0.1:65536\"\n"),
+        &bad,
+    );
     assert_same(&rt, &own_in(alloc, "[own]\nstatus = \"127.0.0.1\"\n"), &bad);
 }

@@ -2,7 +2,8 @@
 
 use crate::same::assert_same;
 use record_rows::{
-    Found, KnownRow, ReadFault, add_beside, find_tables, has_known, make_tables, put_known, read_incarnation, read_known,
+    Found, KnownRow, ReadFault, add_beside, find_tables, has_known, make_tables, put_known,
+    read_incarnation, read_known,
 };
 use sqlite::{Connection, MemStore};
 use std::alloc::Global;
