@@ -51,6 +51,23 @@ fn fault_of<S: StableStore>(
     }
 }
 
+// Prepares of the first messages, as many as this, in a group.
+fn group_of<S: StableStore>(
+    rt: &impl Abort,
+    alloc: Global,
+    node: &Node<S>,
+    number: u64,
+) -> StepGroup
+    ensures { result.was ≡ node.now.kept }
+{
+    let mut group = node.begin_group().expect(rt, "a group");
+    for next in 0..number {
+        let packet = prepare(rt, alloc, "prepare 1 262161", next);
+        assert_same(rt, &fault_of(node, &mut group, packet), &None);
+    }
+    group
+}
+
 // What the steps of three packets give out.
 fn said(rt: &impl Abort, group: &StepGroup) -> [Answer; 3] {
     let [first, second, third] = group.outputs() else {
@@ -70,11 +87,7 @@ fn promised(rt: &impl Abort, alloc: Global) -> Node<ListStore> {
 fn packets_of_three_messages_join_in_their_order(rt: HostRuntime) {
     let alloc = rt.alloc();
     let node = promised(&rt, alloc);
-    let mut group = node.begin_group().expect(&rt, "a group");
-    for number in 0..3 {
-        let packet = prepare(&rt, alloc, "prepare 1 262161", number);
-        assert_same(&rt, &fault_of(&node, &mut group, packet), &None);
-    }
+    let group = group_of(&rt, alloc, &node, 3);
     let wanted = [
         ("Refused", [262162, 0, 0, 0]),
         ("Promised", [0; 4]),
@@ -103,11 +116,7 @@ fn a_packet_that_does_not_join_is_handed_back(rt: HostRuntime) {
 fn a_group_has_no_more_than_64_packets(rt: HostRuntime) {
     let alloc = rt.alloc();
     let node = promised(&rt, alloc);
-    let mut group = node.begin_group().expect(&rt, "a group");
-    for number in 0..64 {
-        let packet = prepare(&rt, alloc, "prepare 1 262161", number);
-        assert_same(&rt, &fault_of(&node, &mut group, packet), &None);
-    }
+    let mut group = group_of(&rt, alloc, &node, 64);
     let packet = prepare(&rt, alloc, "prepare 1 262161", 64);
     let fault = fault_of(&node, &mut group, packet);
     assert_same(
