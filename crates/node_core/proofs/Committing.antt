@@ -8,9 +8,9 @@ use Rattle.node_kept.proofs.Installing.{installed_so}
 use Rattle.node_core.specs.Nodes.{HasTaken, Standing}
 
 pub taken : {S : Type 0} (old new : Standing S) (was : Holding) (input came : Input) (step : Step) → was ≡ old.kept → came ≡ input → IsStepFor was came step →
-    IsInstalled old.kept step.next new.kept → new.broken ≡ false → new.unfinished ≡ old.unfinished → new.stopped ≡ old.stopped →
-    HasTaken old input new step.outputs
-taken old new was input came step same_kept same_input prepared installed works unfinished stopped =
+    IsInstalled old.kept step.next new.kept → new.broken ≡ false → new.unfinished ≡ old.unfinished → new.waiting ≡ old.waiting →
+    new.stopped ≡ old.stopped → HasTaken old input new step.outputs
+taken old new was input came step same_kept same_input prepared installed works unfinished waiting stopped =
     let is : IsStepFor old.kept input step =
     subst (λ (i : Input). IsStepFor old.kept i step) same_input (subst (λ (h : Holding). IsStepFor h came step) same_kept prepared) in
     record {
@@ -22,5 +22,6 @@ taken old new was input came step same_kept same_input prepared installed works 
       incarnation = installed.incarnation;
       works = works;
       unfinished = unfinished;
+      waiting = waiting;
       stopped = stopped;
     }

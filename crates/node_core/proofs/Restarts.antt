@@ -24,13 +24,14 @@ use Rattle.node_kept.specs.declared.kept.Kept.{Kept as Holding}
 use Rattle.node_kept.specs.declared.stopped.Found.{Found}
 use Rattle.node_kept.specs.declared.stopped.Found.TheVariants.{After, Before}
 use Rattle.node_kept.specs.declared.stopped.Stopped.{Stopped}
+use Rattle.node_kept.specs.Grouping.{left_by}
 use Rattle.node_kept.specs.Keeping.{kept_of, records_of}
 use Rattle.node_kept.specs.Listing.{ListsRecorded}
 use Rattle.node_kept.proofs.Listing.{key_put, listed_of, was_recorded}
 use Rattle.node_core.specs.declared.life.Life.{Life}
 use Rattle.node_core.specs.Nodes.{HasOpened, HasStopped, Seen, Standing, records_in}
 use Rattle.node_core.specs.Restarts.{KeepsAsTold, OpensOverWhatIsHeld, next_life}
-use Rattle.node_core.specs.Stops.{IsTold, IsToldOf, is_after, left_by}
+use Rattle.node_core.specs.Stops.{IsTold, IsToldOf, is_after}
 
 -- ---- a restart
 

@@ -19,12 +19,13 @@ use Rattle.node_kept.specs.declared.step.Step.{Step}
 use Rattle.node_kept.specs.declared.stopped.Found.{Found}
 use Rattle.node_kept.specs.declared.stopped.Found.TheVariants.{After, Before}
 use Rattle.node_kept.specs.declared.stopped.Stopped.{Stopped}
+use Rattle.node_kept.specs.Grouping.{left_by}
 use Rattle.node_kept.specs.Keeping.{kept_of, records_of}
 use Rattle.node_kept.specs.Preparing.{IsPrepared}
 use Rattle.node_kept.specs.Steps.{IsStepFor, input_of}
 use Rattle.node_kept.specs.Finding.{HasSaved, IsFound}
 use Rattle.node_core.specs.Nodes.{LeavesAny, records_in}
-use Rattle.node_core.specs.Stops.{IsHalted, IsTold, IsUnfinished, is_after, left_by}
+use Rattle.node_core.specs.Stops.{IsHalted, IsTold, IsUnfinished, is_after}
 use Rattle.node_core.proofs.Saves.{saved_after, saved_before}
 use Rattle.node_core.proofs.Unsaved.{altered, saves_for}
 

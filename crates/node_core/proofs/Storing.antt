@@ -1,6 +1,6 @@
 -- What a node keeps is stored, once its step is.
-use Rattle.std.proofs.Common.{◌≡◌, ℕ, false, List, Option, Some, None, refl, sym, ap, subst, ◌∙◌}
-use Rattle.std.specs.Prelude.{is_some}
+use Rattle.std.proofs.Common.{◌≡◌, ℕ, false, List, [], Option, Some, None, refl, sym, ap, subst, ◌∙◌}
+use Rattle.std.specs.Prelude.{IfSome, is_some}
 use Rattle.std.proofs.Math.Path.{fun_ext}
 use Rattle.std.proofs.lemmas.Bool.{true≢false}
 use Rattle.mc_model.specs.synod.Acceptor.{Records}
@@ -11,13 +11,14 @@ use Rattle.node_kept.specs.Message.{Message as Filed}
 use Rattle.node_kept.specs.Messages.{changed_by}
 use Rattle.node_kept.specs.declared.kept.Kept.{Kept as Holding}
 use Rattle.node_kept.specs.declared.step.Step.{Step}
+use Rattle.node_kept.specs.Grouping.{Grouped}
 use Rattle.node_kept.specs.Keeping.{records_of}
 use Rattle.node_kept.specs.Preparing.{IsPrepared, packet_in}
 use Rattle.node_kept.specs.Steps.{IsInstalled}
 use Rattle.node_kept.proofs.Installing.{own_then}
 use Rattle.stable_store.specs.Stored.{AreSame, Stored}
-use Rattle.node_core.specs.Nodes.{IsStored, SavesAny, records_in}
-use Rattle.node_core.specs.Stops.{IsUnfinished}
+use Rattle.node_core.specs.Nodes.{IsPending, IsStored, SavesAny, packets_waiting, records_in}
+use Rattle.node_core.specs.Stops.{IsUnfinished, IsUnknown}
 use Rattle.node_core.proofs.Unsaved.{saves_for}
 
 some_is_none : {A : Type 0} (x : A) → Some x ≡ None → ⊥
@@ -38,12 +39,27 @@ saves_none k was input given step packet stored same_kept same_input prepared no
     subst (λ (i : Input). IsPrepared k i step packet) same_input (subst (λ (h : Holding). IsPrepared h given step packet) same_kept prepared) in
     subst (λ (c : Option Change). SavesAny c stored stored) (sym (unchanged k input step packet step.next.change refl now none)) (λ records holds. holds)
 
+-- no packet is unfinished, and no group waits
+pub at_rest : (k : Holding) (left : Records) (unfinished : Option Sent) (waiting : Option Grouped) → unfinished ≡ None → waiting ≡ None →
+    AreSame left (records_in k) → IsUnknown k left unfinished (packets_waiting waiting)
+at_rest k left unfinished waiting finished settled same =
+    subst (λ (w : Option Grouped). IsUnknown k left unfinished (packets_waiting w)) (sym settled)
+    (subst (λ (p : Option Sent). IsUnfinished k left p) (sym finished) same)
+
+pub none_pending : (k : Holding) (waiting : Option Grouped) → waiting ≡ None → IfSome waiting (IsPending k)
+none_pending k waiting settled = subst (λ (w : Option Grouped). IfSome w (IsPending k)) (sym settled) tt
+
+-- no group waits, if none of its packets does
+pub none_waits : (k : Holding) (waiting : Option Grouped) → IfSome waiting (IsPending k) → packets_waiting waiting ≡ [] → waiting ≡ None
+none_waits k None pending none = refl
+none_waits k (Some group) pending none = absurd (pending.some none)
+
 -- what is stored is what it keeps, as before the step
-pub stored_once : (k was new : Holding) (input given : Input) (step : Step) (packet unfinished : Option Sent) (before after : Stored) → was ≡ k →
-    given ≡ input → IsPrepared was given step packet → IsInstalled k step.next new → SavesAny step.next.change before after →
-    ((records left : Records) → after.holds records → after.may_hold left → AreSame left records) →
-    IsStored false before unfinished k → IsStored false after unfinished new
-stored_once k was new input given step packet unfinished before after same_kept same_input prepared is saves settled old =
+pub stored_once : (k was new : Holding) (input given : Input) (step : Step) (packet unfinished : Option Sent) (waiting : Option Grouped)
+    (before after : Stored) → was ≡ k → given ≡ input → IsPrepared was given step packet → IsInstalled k step.next new →
+    SavesAny step.next.change before after → ((records left : Records) → after.holds records → after.may_hold left → AreSame left records) →
+    IsStored false before unfinished waiting k → IsStored false after unfinished waiting new
+stored_once k was new input given step packet unfinished waiting before after same_kept same_input prepared is saves settled old =
     let now : IsPrepared k input step packet =
     subst (λ (i : Input). IsPrepared k i step packet) same_input (subst (λ (h : Holding). IsPrepared h given step packet) same_kept prepared) in
     let records : records_in new ≡ changed_by step.next.change (records_in k) =
@@ -53,5 +69,7 @@ stored_once k was new input given step packet unfinished before after same_kept 
       saved = λ works. holds;
       own = own_then k new step.next is (now.is.is.own old.own);
       finished = old.finished;
-      halted = λ left found. subst (λ (p : Option Sent). IsUnfinished new left p) (sym (old.finished refl)) (settled (records_in new) left holds found);
+      settled = old.settled;
+      pending = none_pending new waiting (old.settled refl);
+      halted = λ left found. at_rest new left unfinished waiting (old.finished refl) (old.settled refl) (settled (records_in new) left holds found);
     }

@@ -15,7 +15,6 @@ pub use Rattle.node_kept.specs.Granting
 pub use Rattle.node_kept.specs.Reaching
 pub use Rattle.node_kept.specs.MayBegin
 pub use Rattle.node_kept.specs.Reach
-pub use Rattle.node_kept.specs.contracts.kept.Kept as ContractsKept
 pub mod Pendings
 pub mod Stops
 pub mod Nodes

@@ -10,6 +10,7 @@ mod open;
 mod pending;
 mod permit;
 mod permitting;
+mod settling;
 
 pub use laws::{
     opens_as_crashed, opens_as_restarted, opens_over_a_list, opens_over_what_is_held,

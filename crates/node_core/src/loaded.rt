@@ -1,6 +1,6 @@
 //! A node that is loaded over its store, and has not begun.
 
-ghost use Rattle.std.specs.Prelude.{◌≡◌, None, IfOk, IfErr, OnOk};
+ghost use Rattle.std.specs.Prelude.{◌≡◌, [], None, IfOk, IfErr, OnOk};
 ghost use Rattle.node_core.specs.Loadings.{Begins, FailsToBegin, HasLoaded, HasRaised, IsLoaded};
 ghost use Rattle.node_core.specs.Nodes.{FailsToOpen};
 
@@ -52,6 +52,7 @@ impl<S: StableStore> Loaded<S> {
     pub fn begin(self) -> Result<(Node<S>, Life), (StoreFault, S)>
         ensures ok { IfOk result (λ opened. Begins S.stored self opened.0 opened.1) }
         ensures finished { IfOk result (λ opened. opened.0.unfinished ≡ None) }
+        ensures settled { IfOk result (λ opened. opened.0.waiting ≡ []) }
         ensures untold { IfOk result (λ opened. opened.0.stopped ≡ None) }
         ensures err { IfErr result (λ failed. FailsToBegin S.stored self failed.0 failed.1) }
     {

@@ -1,6 +1,6 @@
 //! One node.
 
-ghost use Rattle.std.specs.Prelude.{◌≡◌, ◌≢◌, ◌↔◌, ◌⊎◌, None, Some, IfSome, true, false, IfOk, IfErr, IsErrOf, IsOk, IsSome, OnErr, OnOk, ◌≤◌};
+ghost use Rattle.std.specs.Prelude.{◌≡◌, ◌≢◌, ◌↔◌, ◌⊎◌, [], None, Some, IfSome, true, false, IfOk, IfErr, IsErrOf, IsOk, IsSome, OnErr, OnOk, ◌≤◌};
 ghost use Rattle.mc_model.specs.synod.Acceptor.{Records};
 ghost use Rattle.mc_model.specs.message.Ids.{IsIncarnation, IsNode};
 ghost use Rattle.node_kept.specs.StepFault.TheVariants.{Broken, Device, Memory};
@@ -15,7 +15,7 @@ ghost use Rattle.node_kept.specs.Listing.{ListsRecorded};
 ghost use Rattle.node_kept.specs.Setups.{IsSetup};
 ghost use Rattle.node_kept.specs.Steps.{IsFault};
 ghost use Rattle.node_kept.specs.Preparing.{packet_in};
-ghost use Rattle.node_core.specs.Stops.{IsTold, IsUnfinished};
+ghost use Rattle.node_core.specs.Stops.{IsTold, IsUnknown};
 ghost use Rattle.node_core.specs.Permits.{is_life_of};
 ghost use Rattle.node_core.specs.Nodes.{HasStopped, HasTaken, HasTakenQuietly, IsAwaited, IsLeft, IsLifeOf, IsStored, IsUnmoved, LeavesAny};
 ghost use Rattle.node_core.specs.Nodes.{OpensOver, SavesAny, breaks, fault_in, records_in, seen};
@@ -25,7 +25,7 @@ use crate::open::begin;
 use crate::pending::Pending;
 use fate_chain::Chain;
 use mc_types::{Moment, MsgId};
-use node_kept::{Input, Kept, Outputs, Setup, Step, StepFault, Stopped, told};
+use node_kept::{Input, Kept, Outputs, Setup, Step, StepFault, StepGroup, Stopped, told};
 use stable_store::{StableStore, StoreFault};
 use std::marker::Model;
 use std::snapshot::Snapshot;
@@ -35,11 +35,13 @@ use synod_acceptor::{Change, Packet};
 /// which takes no memory but what its store takes. Once a save failed it takes no more steps.
 #[derive(Drop)]
 pub struct Node<S: StableStore> {
-    store: S,
+    pub(crate) store: S,
     pub(crate) kept: Kept,
-    broken: bool,
+    pub(crate) broken: bool,
     // The packet whose save failed since it opened.
-    unfinished: Option<Packet>,
+    pub(crate) unfinished: Option<Packet>,
+    // The group whose save failed since it opened, till it is known what of it is stored.
+    pub(crate) waiting: Option<StepGroup>,
     stopped: Option<Stopped>,
 }
 
@@ -48,27 +50,29 @@ impl<S: StableStore> Model for Node<S> {
 
     ghost Value = { Standing S };
 
-    ghost use Rattle.node_core.specs.Nodes.{IsStored};
+    ghost use Rattle.node_core.specs.Nodes.{IsStored, packets_waiting};
 
     ghost view = { λ n. record {
       kept = n.kept;
       broken = n.broken;
       store = n.store;
       unfinished = n.unfinished;
+      waiting = packets_waiting n.waiting;
       stopped = n.stopped;
     } };
 
-    ghost invariant = { λ n. IsStored n.broken (S.stored n.store) n.unfinished n.kept };
+    ghost invariant = { λ n. IsStored n.broken (S.stored n.store) n.unfinished n.waiting n.kept };
 }
 
 impl<S: StableStore> Node<S> {
     /// A node that keeps what its store has the records of.
     pub(crate) fn make(store: S, kept: Kept) -> Node<S>
-        requires { IsStored false (S.stored store) None kept }
+        requires { IsStored false (S.stored store) None None kept }
         ensures kept { result.kept ≡ kept }
         ensures broken { result.broken ≡ false }
         ensures store { result.store ≡ store }
         ensures unfinished { result.unfinished ≡ None }
+        ensures waiting { result.waiting ≡ [] }
         ensures stopped { result.stopped ≡ None }
     {
         Node {
@@ -76,6 +80,7 @@ impl<S: StableStore> Node<S> {
             kept,
             broken: false,
             unfinished: None,
+            waiting: None,
             stopped: None,
         }
     }
@@ -200,16 +205,20 @@ impl<S: StableStore> Node<S> {
     /// Opens the node again over what its store has, in the incarnation after the last one that is stored, which is raised last: it
     /// keeps the records of the store and nothing else. The `Life` is the node's own, and an `Err` hands it back. Incarnations and Memory
     /// leave the node and its store as they were; after Device and Damaged it is Broken, and the store has the same records. Once it opened,
-    /// `stopped` tells of the save that failed before, if one did.
+    /// `stopped` tells of the save that failed before, if one did. A node in which a group waits is not opened, and told Memory: `settle` comes first.
     #[inline(never)]
     pub fn reopen(&mut self, life: Life) -> Result<Life, (StoreFault, Life)>
         requires { IsLifeOf self.old life }
         ensures ok { IfOk result (OpensOver (S.stored self.old.store) self.old.kept.setup (S.stored self.new.store) self.new) }
         ensures told { OnOk result ((S.stored self.new.store).doubt ≡ 0 → IsTold self.old.kept (records_in self.new.kept) self.old.unfinished self.new.stopped) }
         ensures finished { OnOk result (self.new.unfinished ≡ None) }
+        ensures settled { OnOk result ((self.old.waiting ≡ []) × (self.new.waiting ≡ [])) }
         ensures err { IfErr result (λ failed. IsLeft (seen S.stored self.old) failed.0 (seen S.stored self.new)) }
         ensures life { IfErr result (λ failed. failed.1 ≡ life) }
     {
+        if self.waits() {
+            return Err((StoreFault::Memory, life));
+        }
         let setup = self.kept.setup();
         match begin(self.kept.alloc(), &mut self.store, setup) {
             Ok(kept) => {
@@ -254,6 +263,13 @@ impl<S: StableStore> Node<S> {
         self.broken
     }
 
+    /// Whether a group waits whose save failed, till `settle` knows what of it is stored. It takes no memory.
+    pub fn waits(&self) -> bool
+        ensures { (result ≡ false) ↔ (self.now.waiting ≡ []) }
+    {
+        self.waiting.is_some()
+    }
+
     /// Broken exactly if a save failed before. It takes no memory.
     #[inline(always)]
     pub(crate) fn judge(&self) -> Result<(), StepFault>
@@ -267,11 +283,13 @@ impl<S: StableStore> Node<S> {
     }
 
     /// What a proof takes of its messages: each of which there is a record is among them, and unless a save failed, the records that it keeps are
-    /// those of its store. Whoever opens its store finds these, or what the step of the packet leaves whose save failed. The call does nothing.
+    /// those of its store. Whoever opens its store finds these, or what the step of the packet leaves whose save failed; or what those of the group leave
+    /// together that waits. The call does nothing.
     pub fn lists(&self)
         ensures lists { ListsRecorded (kept_of self.now.kept) }
         ensures saved { self.now.broken ≡ false → (S.stored self.now.store).holds (kept_of self.now.kept).records }
-        ensures left { (left : Records) → (S.stored self.now.store).may_hold left → IsUnfinished self.now.kept left self.now.unfinished }
+        ensures finished { self.now.broken ≡ false → (self.now.unfinished ≡ None) × (self.now.waiting ≡ []) }
+        ensures left { (left : Records) → (S.stored self.now.store).may_hold left → IsUnknown self.now.kept left self.now.unfinished self.now.waiting }
     {
         self.kept.lists();
     }
@@ -291,7 +309,7 @@ impl<S: StableStore> Node<S> {
     pub fn into_store(self) -> S
         ensures store { result ≡ self.store }
         ensures saved { self.broken ≡ false → (S.stored result).holds (records_in self.kept) }
-        ensures left { (left : Records) → (S.stored result).may_hold left → IsUnfinished self.kept left self.unfinished }
+        ensures left { (left : Records) → (S.stored result).may_hold left → IsUnknown self.kept left self.unfinished self.waiting }
     {
         self.store
     }

@@ -1,6 +1,6 @@
 //! The opening of a node.
 
-ghost use Rattle.std.specs.Prelude.{◌≡◌, None, IfOk, IfErr};
+ghost use Rattle.std.specs.Prelude.{◌≡◌, [], None, IfOk, IfErr};
 ghost use Rattle.stable_store.specs.Stored.{GoesOn, LeavesNext};
 ghost use Rattle.node_kept.specs.Keeping.{IsOpen};
 ghost use Rattle.node_core.specs.Nodes.{FailsToOpen, HasFound, IsCaused, OpensOver, StaysAt, records_in};
@@ -23,6 +23,7 @@ pub fn open_node<S: StableStore>(
 ) -> Result<(Node<S>, Life), (StoreFault, S)>
     ensures ok { IfOk result (λ opened. OpensOver (S.stored store) setup (S.stored opened.0.store) opened.0 opened.1) }
     ensures finished { IfOk result (λ opened. opened.0.unfinished ≡ None) }
+    ensures settled { IfOk result (λ opened. opened.0.waiting ≡ []) }
     ensures untold { IfOk result (λ opened. opened.0.stopped ≡ None) }
     ensures err { IfErr result (λ failed. FailsToOpen failed.0 (S.stored store) (S.stored failed.1)) }
 {

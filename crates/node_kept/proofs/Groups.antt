@@ -1,7 +1,8 @@
 -- The steps of a group, one behind the other.
-use Rattle.std.proofs.Common.{◌≡◌, ◌≤◌, ℕ, suc, Bool, true, false, List, [], ◌∷◌, ◌++◌, add-one, append_assoc, drop, length, length-append, lit≤, map, Option, Some, None, refl, sym, ap, subst, ◌∙◌, arith, inl, inr, ◌⊎◌}
+use Rattle.std.proofs.Common.{◌≡◌, ◌≤◌, ℕ, suc, Bool, true, false, List, [], ◌∷◌, ◌++◌, add-one, append_assoc, drop, length, length-append, lit≤, map}
+use Rattle.std.proofs.Common.{Option, Some, None, refl, sym, ap, subst, ◌∙◌, arith, inl, inr, ◌⊎◌}
 use Rattle.std.proofs.Math.Path.{fun_ext}
-use Rattle.std.specs.Prelude.{◌==◌, ◌||◌, is_some, nat_le, if◌then◌else◌}
+use Rattle.std.specs.Prelude.{◌==◌, ◌||◌, IsSome, nat_le, if◌then◌else◌}
 use Rattle.std.specs.List.{list_any}
 use Rattle.std.specs.List.Sorted.{IsStrictlySortedBy}
 use Rattle.std.specs.Map.{keys_of}
@@ -19,7 +20,7 @@ use Rattle.shelf.specs.Shelved.{value_at}
 use Rattle.synod_acceptor.specs.Packets.{packet_of}
 use Rattle.synod_acceptor.specs.declared.packet.Packet.{Packet as Sent}
 use Rattle.synod_acceptor.specs.declared.record.Change.{Change}
-use Rattle.waiting_requests.specs.Waiting.{held_in}
+use Rattle.waiting_requests.specs.Waiting.{Waits, held_in}
 use Rattle.node_parts.specs.declared.message.Message.{Message as Filed}
 use Rattle.node_parts.specs.declared.message_room.MessageRoom.{MessageRoom}
 use Rattle.node_parts.specs.declared.outputs.Outputs.{Outputs as Given}
@@ -29,9 +30,11 @@ use Rattle.node_kept.specs.declared.grouped_step.GroupedStep.{GroupedStep}
 use Rattle.node_kept.specs.declared.join_fault.JoinFault.TheVariants as faults
 use Rattle.node_kept.specs.declared.kept.Kept.{Kept as Holding}
 use Rattle.node_kept.specs.declared.step.Step.{Step}
-use Rattle.node_kept.specs.Grouping.{AreGrouped, AreOfOthers, Grouped, HasInstalled, HasSteppedAll, IsAlike, IsAlone, IsGroup, IsGrouped, IsRoomFor, IsSame, StartsWith}
+use Rattle.node_kept.specs.Grouping.{AreGrouped, AreOfOthers, Grouped, HasInstalled, HasSteppedAll, IsAlike, IsAlone, IsGroup, IsGrouped, IsRoomFor}
+use Rattle.node_kept.specs.Grouping.{IsSame, StartsWith}
 use Rattle.node_kept.specs.Grouping.{asked_in, changed_by_all, changes_in, is_asked_in, is_of, join_fault, joins_unless, most_grouped, outputs_in, packets_in}
-use Rattle.node_kept.specs.Keeping.{AreOwn, filed_as, kept_of, records_of}
+use Rattle.node_kept.specs.Keeping.{AreOf, AreOwn, filed_as, kept_of, records_of}
+use Rattle.node_kept.specs.Queueing.{AreAsked}
 use Rattle.node_kept.specs.Steps.{outputs_of}
 use Rattle.node_kept.proofs.Installing.{alike_itself, alike_on}
 
@@ -79,8 +82,8 @@ pub record IsTaking (start now : Holding) (all left : List GroupedStep) (saved :
   pub ends : (new : Holding) → HasSteppedAll now (packets_in left) (outputs_in left) new → HasSteppedAll start (packets_in all) (outputs_in all) new
   pub records : changed_by_all changes (records_of now.messages.entries) ≡ saved
 
-pub begins_taking : (k : Holding) (steps left : List GroupedStep) (changes these : List Change) → left ≡ steps → these ≡ changes → AreGrouped k steps → AreOwn k →
-    changes ≡ changes_in steps → length steps ≤ k.messages.room → length steps ≤ k.messages.listings →
+pub begins_taking : (k : Holding) (steps left : List GroupedStep) (changes these : List Change) → left ≡ steps → these ≡ changes →
+    AreGrouped k steps → AreOwn k → changes ≡ changes_in steps → length steps ≤ k.messages.room → length steps ≤ k.messages.listings →
     IsTaking k k steps left (changed_by_all changes (records_of k.messages.entries)) these
 begins_taking k steps left changes these same same_changes are own of room lists =
     subst (λ (l : List GroupedStep). IsTaking k k steps l (changed_by_all changes (records_of k.messages.entries)) these) (sym same)
@@ -104,7 +107,7 @@ rest_of : (change : Option Change) (others : List Change) → drop (length (list
 rest_of None others = refl
 rest_of (Some change) others = refl
 
-first_changed : (change : Option Change) (others : List Change) (records : Records) →
+pub first_changed : (change : Option Change) (others : List Change) (records : Records) →
     changed_by_all (listed change ++ others) records ≡ changed_by_all others (changed_by change records)
 first_changed None others records = refl
 first_changed (Some change) others records = refl
@@ -133,14 +136,16 @@ module _ (start now new : Holding) (all left others : List GroupedStep) (first :
   changes_split : changes ≡ listed first.whole.value.next.change ++ These
   changes_split = is.changes_are ∙ ap changes_in split
 
-  pub taking_goes_on : HasInstalled now first new → these ≡ drop (length (listed first.whole.value.next.change)) changes → IsTaking start new all others saved these
+  pub taking_goes_on : HasInstalled now first new → these ≡ drop (length (listed first.whole.value.next.change)) changes →
+      IsTaking start new all others saved these
   taking_goes_on installed dropped =
       let more = longer in
       let had = is.room in
       let had_lists = is.lists in
       let room = installed.room in
       let lists = installed.lists in
-      let rest : these ≡ These = dropped ∙ ap (drop (length (listed first.whole.value.next.change))) changes_split ∙ rest_of first.whole.value.next.change These in
+      let rest : these ≡ These =
+      dropped ∙ ap (drop (length (listed first.whole.value.next.change))) changes_split ∙ rest_of first.whole.value.next.change These in
       record {
         steps = all_alike now new others (λ s in_others. installed.others s.id (now_is.1 s in_others)) now_is.2;
         own = installed.own;
@@ -162,7 +167,8 @@ pub record HaveTaken (start new : Holding) (all : List GroupedStep) (saved : Rec
   pub records : records_of new.messages.entries ≡ saved
   pub own : AreOwn new
 
-pub all_taken : (start now : Holding) (all left : List GroupedStep) (saved : Records) (changes : List Change) → left ≡ [] → IsTaking start now all left saved changes →
+pub all_taken : (start now : Holding) (all left : List GroupedStep) (saved : Records) (changes : List Change) → left ≡ [] →
+    IsTaking start now all left saved changes →
     HaveTaken start now all saved
 all_taken start now all left saved changes none is =
     let no_changes : changes ≡ [] = is.changes_are ∙ ap changes_in none in
@@ -183,7 +189,8 @@ asked_is k (first ∷ others) id are =
     ∙ ap (λ (b : Bool). (first.id == id) || b) (asked_is k others id are.2)
 
 -- none of them is for a message for which none asks
-pub not_asked : (k : Holding) (steps : List GroupedStep) (id : ℕ) → AreGrouped k steps → is_asked_in k.setup (packets_in steps) id ≡ false → AreOfOthers id steps
+pub not_asked : (k : Holding) (steps : List GroupedStep) (id : ℕ) → AreGrouped k steps → is_asked_in k.setup (packets_in steps) id ≡ false →
+    AreOfOthers id steps
 not_asked k steps id are none = apart steps (sym (asked_is k steps id are) ∙ none)
   where
     apart : (steps : List GroupedStep) → list_any (λ (s : GroupedStep). s.id == id) steps ≡ false → AreOfOthers id steps
@@ -238,8 +245,8 @@ few_changes (first ∷ others) =
 
 -- ---- what they give out
 
-pub gives_each : (k : Holding) (steps : List GroupedStep) (room : Option MessageRoom) → AreGrouped k steps → IsStrictlySortedBy nat_cmp (keys_of k.messages.entries) →
-    IsRoomFor most_grouped k.messages room →
+pub gives_each : (k : Holding) (steps : List GroupedStep) (room : Option MessageRoom) → AreGrouped k steps →
+    IsStrictlySortedBy nat_cmp (keys_of k.messages.entries) → IsRoomFor most_grouped k.messages room →
     map outputs_of (outputs_in steps) ≡ map (λ (packet : Sent). (stepped k.setup (kept_of k) (Delivery (packet_of packet))).outputs) (packets_in steps)
 gives_each k [] room are ascend fits = refl
 gives_each k (first ∷ others) room are ascend fits =
@@ -302,8 +309,10 @@ pub group_more : (k : Holding) (steps steps_then : Vec GroupedStep) (outputs out
     changes_then.items ≡ changes.items ++ listed new.whole.value.next.change → vec_capacity steps_then ≡ vec_capacity steps →
     vec_capacity outputs_then ≡ vec_capacity outputs → vec_capacity changes_then ≡ vec_capacity changes →
     IsGroup k steps_then outputs_then changes_then room
-group_more k steps steps_then outputs outputs_then changes changes_then room new is apart grouped less in_steps in_outputs in_changes for_steps for_outputs for_changes =
-    let longer : length steps_then.items ≡ suc (length steps.items) = ap length in_steps ∙ length-append steps.items (new ∷ []) ∙ add-one (length steps.items) in
+group_more k steps steps_then outputs outputs_then changes changes_then room new is apart grouped less in_steps in_outputs in_changes for_steps for_outputs
+    for_changes =
+    let longer : length steps_then.items ≡ suc (length steps.items) =
+    ap length in_steps ∙ length-append steps.items (new ∷ []) ∙ add-one (length steps.items) in
     record {
       ascend = is.ascend;
       steps_are = subst (AreGrouped k) (sym in_steps) (one_more k steps.items new is.steps_are apart grouped);
@@ -357,12 +366,12 @@ module _ (k made : Holding) (steps : List GroupedStep) (setup : made.setup ≡ k
 -- the step of one that may join
 pub grouped_new : (k : Holding) (step : Step) (new : GroupedStep) → asked_in k.setup (packet_of new.packet) ≡ Some new.id →
     IsAlone new.id k (λ setup kept. stepped setup kept (Delivery (packet_of new.packet))) step → step ≡ new.whole.value →
-    new.next ≡ record step.next { room = None; change = None } → new.saves ≡ is_some step.next.change → IsGrouped k new
+    new.next ≡ record step.next { room = None; change = None } → IsSome step.next.change → IsGrouped k new
 grouped_new k step new asked alone whole next saves = record {
   asked = asked;
   alone = subst (λ (s : Step). IsAlone new.id k (λ setup kept. stepped setup kept (Delivery (packet_of new.packet))) s) whole alone;
   next = next ∙ ap (λ (s : Step). record s.next { room = None; change = None }) whole;
-  saves = saves ∙ ap (λ (s : Step). is_some s.next.change) whole;
+  saves = subst (λ (s : Step). IsSome s.next.change) whole saves;
 }
 
 module _ (k : Holding) (steps : Vec GroupedStep) (outputs : Vec Given) (changes : Vec Change) (room : MessageRoom) (group : Grouped) (packet : Sent) (id : ℕ)
@@ -380,14 +389,15 @@ module _ (k : Holding) (steps : Vec GroupedStep) (outputs : Vec Given) (changes 
 
   pub changes_fit : suc (length changes.items) ≤ vec_capacity changes
   changes_fit =
-      let few : length changes.items ≤ length steps.items = subst (λ (cs : List Change). length cs ≤ length steps.items) (sym is.changes_are) (few_changes steps.items) in
+      let few : length changes.items ≤ length steps.items =
+      subst (λ (cs : List Change). length cs ≤ length steps.items) (sym is.changes_are) (few_changes steps.items) in
       let less = still_fits in
       let capacity = is.for_changes in
       omega (arith, few, less, capacity)
 
   pub joined : (step : Step) (new : GroupedStep) (steps_then : Vec GroupedStep) (outputs_then : Vec Given) (changes_then : Vec Change) → packet ≡ new.packet →
       id ≡ new.id → IsAlone id group.was (λ setup kept. stepped setup kept (Delivery (packet_of packet))) step → step ≡ new.whole.value →
-      new.next ≡ record step.next { room = None; change = None } → new.saves ≡ is_some step.next.change →
+      new.next ≡ record step.next { room = None; change = None } → IsSome step.next.change →
       steps_then.items ≡ steps.items ++ new ∷ [] → outputs_then.items ≡ outputs.items ++ step.outputs ∷ [] →
       changes_then.items ≡ changes.items ++ listed step.next.change → vec_capacity steps_then ≡ vec_capacity steps →
       vec_capacity outputs_then ≡ vec_capacity outputs → vec_capacity changes_then ≡ vec_capacity changes →

@@ -121,11 +121,13 @@ module _ (k : Holding) (s : GroupedStep) (is : IsGrouped k s) (ascend : IsStrict
     clock = installed.clock ∙ is.alone.of.clock;
     serial = installed.serial ∙ is.alone.of.serial;
     given = installed.given ∙ is.alone.of.given;
-    message = ap (λ (es : List (ℕ × Filed)). value_at es id) installed.entries ∙ then_elsewhere s.id id k s.whole.value.next apart is.alone.of k.messages.entries;
+    message = ap (λ (es : List (ℕ × Filed)). value_at es id) installed.entries
+        ∙ then_elsewhere s.id id k s.whole.value.next apart is.alone.of k.messages.entries;
     ascend = rises;
   }
 
-  pub installed_one : (new : Holding) → AreOwn k → IsInstalled k Whole.next new → IsStrictlySortedBy nat_cmp (keys_of new.messages.entries) → HasInstalled k s new
+  pub installed_one : (new : Holding) → AreOwn k → IsInstalled k Whole.next new → IsStrictlySortedBy nat_cmp (keys_of new.messages.entries) →
+      HasInstalled k s new
   installed_one new own installed rises =
       let step = grouped_step in
       let once = is.alone.of.once in

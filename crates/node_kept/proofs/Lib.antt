@@ -1,4 +1,4 @@
-pub use Rattle.node_parts.proofs.message_shelf.MessageShelf.TheSendSync as MessageShelfSendSync
+pub mod Crossing
 pub mod Entries
 pub mod Putting
 pub mod Queueing
@@ -14,6 +14,7 @@ pub mod Listing
 pub mod Alone
 pub mod Installing
 pub mod Groups
+pub mod Together
 pub mod Opening
 pub mod Voting
 pub mod Quiet

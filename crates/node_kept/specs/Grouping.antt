@@ -1,5 +1,6 @@
 -- Steps that are prepared over what is kept, each for another message, to be saved together.
-use Rattle.std.specs.Prelude.{◌≡◌, ℕ, ◌+◌, ◌-◌, ◌≤◌, ◌==◌, max, is_some, nat_le, Bool, false, List, [], ◌∷◌, ◌++◌, length, map, Option, Some, None, if◌then◌else◌}
+use Rattle.std.specs.Prelude.{◌≡◌, ℕ, ◌+◌, ◌-◌, ◌≤◌, ◌==◌, ◌≢◌, ◌⊎◌, max, nat_le, Bool, IsSome, false, if◌then◌else◌}
+use Rattle.std.specs.Prelude.{List, [], ◌∷◌, ◌++◌, length, map, Option, Some, None}
 use Rattle.std.specs.Global.{Vec}
 use Rattle.std.specs.List.{AllByRecursion, list_any}
 use Rattle.std.specs.List.Sorted.{IsStrictlySortedBy}
@@ -78,17 +79,21 @@ joins_unless group (Some id) =
 abbrev pub join_fault : Grouped → Sent → Option JoinFault
 join_fault group packet = joins_unless group (asked_in group.was.setup (packet_of packet))
 
--- one that may join does not for want of memory alone
-abbrev pub IsJoinFault : Option JoinFault → JoinFault → Type 0
-IsJoinFault None fault = fault ≡ faults.Memory
-IsJoinFault (Some refusal) fault = fault ≡ refusal
+-- the records that the step of a packet leaves
+abbrev pub left_by : Holding → Sent → Records
+left_by k packet = (stepped k.setup (kept_of k) (Delivery (packet_of packet))).kept.records
 
--- one more packet waits, with what its step saves, if it saves anything
+-- one that may join does not if its step leaves the records as they are, or for want of memory
+abbrev pub IsJoinFault : Holding → Sent → Option JoinFault → JoinFault → Type 0
+IsJoinFault k packet None fault = ((fault ≡ faults.Idle) × (left_by k packet ≡ records_of k.messages.entries)) ⊎ (fault ≡ faults.Memory)
+IsJoinFault k packet (Some refusal) fault = fault ≡ refusal
+
+-- one more packet waits, with what its step saves
 pub record HasJoined (old : Grouped) (packet : Sent) (new : Grouped) : Type 0 where
   pub was : new.was ≡ old.was
   pub packets : new.packets ≡ old.packets ++ packet ∷ []
-  pub change : Option Change
-  pub changes : new.changes ≡ old.changes ++ listed change
+  pub change : Change
+  pub changes : new.changes ≡ old.changes ++ change ∷ []
 
 -- ---- what is kept once they are taken
 
@@ -112,6 +117,21 @@ HasSteppedAll old [] (given ∷ more) new = ⊥
 HasSteppedAll old (packet ∷ packets) [] new = ⊥
 HasSteppedAll old (packet ∷ packets) (given ∷ more) new =
     (between : Holding) × HasStepped old packet given between × HasSteppedAll between packets more new
+
+-- what the steps of packets leave together, in their order
+abbrev pub kept_after_all : Setup → Kept → List Sent → Kept
+kept_after_all setup k [] = k
+kept_after_all setup k (packet ∷ packets) = kept_after_all setup (stepped setup k (Delivery (packet_of packet))).kept packets
+
+abbrev pub left_by_all : Holding → List Sent → Records
+left_by_all k packets = (kept_after_all k.setup (kept_of k) packets).records
+
+-- the step of each leaves other records than those before it
+abbrev pub ChangesEach : Setup → Kept → List Sent → Type 0
+ChangesEach setup k [] = Unit {0}
+ChangesEach setup k (packet ∷ packets) =
+    ((stepped setup k (Delivery (packet_of packet))).kept.records ≢ k.records)
+    × ChangesEach setup (stepped setup k (Delivery (packet_of packet))).kept packets
 
 -- the records after several changes, in their order
 abbrev pub changed_by_all : List Change → Records → Records
@@ -159,7 +179,7 @@ pub record IsGrouped (k : Holding) (s : GroupedStep) : Type 0 where
   pub asked : asked_in k.setup (packet_of s.packet) ≡ Some s.id
   pub alone : IsAlone s.id k (λ setup kept. stepped setup kept (Delivery (packet_of s.packet))) s.whole.value
   pub next : s.next ≡ record s.whole.value.next { room = None; change = None }
-  pub saves : s.saves ≡ is_some s.whole.value.next.change
+  pub saves : IsSome s.whole.value.next.change
 
 -- none of them is for this message
 abbrev pub AreOfOthers : ℕ → List GroupedStep → Type 0
@@ -179,7 +199,7 @@ abbrev pub changes_in : List GroupedStep → List Change
 changes_in [] = []
 changes_in (first ∷ others) = listed first.whole.value.next.change ++ changes_in others
 
--- the change of a step is the first of these, if it makes one
+-- the change of a step is the first of these
 abbrev pub StartsWith : GroupedStep → List Change → Type 0
 StartsWith s changes = (others : List Change) × (changes ≡ listed s.whole.value.next.change ++ others)
 

@@ -12,8 +12,6 @@ pub struct GroupedStep {
     pub(crate) packet: Packet,
     pub(crate) id: MsgId,
     pub(crate) next: Next,
-    // Whether it makes a change.
-    pub(crate) saves: bool,
     // The step as it was prepared.
     pub(crate) whole: Snapshot<Step>,
 }

@@ -1,14 +1,15 @@
 //! How packets join a group, and how their steps are taken once it is saved.
 
-ghost use Rattle.std.specs.Prelude.{◌≡◌, ℕ, ◌≤◌, [], None, Some, IfErr, IfOk, IsSome, OnErr, OnOk, drop, is_some, length};
+ghost use Rattle.std.specs.Prelude.{◌≡◌, ◌≢◌, ℕ, ◌≤◌, [], None, Some, IfErr, IfOk, IsSome, OnErr, OnOk, drop, length, map};
 ghost use Rattle.mc_model.specs.node.Input.{Delivery};
 ghost use Rattle.mc_model.specs.synod.Packet.{Slot};
 ghost use Rattle.node_model.specs.Stepped.{stepped};
 ghost use Rattle.synod_acceptor.specs.Packets.{packet_of};
 ghost use Rattle.node_parts.specs.Lists.{listed};
 ghost use Rattle.node_kept.specs.Grouping.{AreGrouped, HasInstalled, HasJoined, HasSteppedAll, IsAlone, IsGrouped, IsJoinFault, StartsWith};
-ghost use Rattle.node_kept.specs.Grouping.{asked_in, changed_by_all, changes_in, join_fault, outputs_in, packets_in};
+ghost use Rattle.node_kept.specs.Grouping.{asked_in, changed_by_all, changes_in, join_fault, left_by, outputs_in, packets_in};
 ghost use Rattle.node_kept.specs.Keeping.{AreOwn, kept_of, records_of};
+ghost use Rattle.node_kept.specs.Steps.{outputs_of};
 
 use crate::grouped_step::GroupedStep;
 use crate::join_fault::JoinFault;
@@ -41,13 +42,14 @@ impl Kept {
     }
 
     /// Prepares the step of a packet and puts it behind the others of a group that was begun over what is kept. It changes nothing else. An `Err` hands the
-    /// packet back, with the first reason that fits, or Memory if there is none, and leaves the group as it was.
+    /// packet back, with the first reason that fits, or Memory if none is known, and leaves the group as it was.
     pub fn join(&self, group: &mut StepGroup, packet: Packet) -> Result<(), (JoinFault, Packet)>
         requires was { group.old.was ≡ self.now }
         requires own { AreOwn self.now }
         ensures joined { OnOk result (HasJoined group.old packet group.new) }
         ensures allowed { OnOk result (join_fault group.old packet ≡ None) }
-        ensures faults { IfErr result (λ failed. IsJoinFault (join_fault group.old packet) failed.0) }
+        ensures changes { OnOk result (left_by self.now packet ≢ records_of self.now.messages.entries) }
+        ensures faults { IfErr result (λ failed. IsJoinFault self.now packet (join_fault group.old packet) failed.0) }
         ensures back { IfErr result (λ failed. failed.1 ≡ packet) }
         ensures stays { OnErr result (group.new ≡ group.old) }
     {
@@ -55,9 +57,13 @@ impl Kept {
             Ok(id) => id,
             Err(fault) => return Err((fault, packet)),
         };
+        self.messages.ascends();
         let Ok(step) = self.asked_step(&packet) else {
             return Err((JoinFault::Memory, packet));
         };
+        if step.next.change.is_none() {
+            return Err((JoinFault::Idle, packet));
+        }
         group.put(packet, id, step);
         Ok(())
     }
@@ -115,6 +121,8 @@ impl Kept {
         requires was { group.was ≡ self.old }
         requires own { AreOwn self.old }
         ensures taken { HasSteppedAll self.old group.packets result.items self.new }
+        ensures gives { map outputs_of result.items
+            ≡ map (λ packet. (stepped group.was.setup (kept_of group.was) (Delivery (packet_of packet))).outputs) group.packets }
         ensures records { (slot : Slot) → records_of self.new.messages.entries slot ≡ changed_by_all group.changes (records_of self.old.messages.entries) slot }
         ensures own { AreOwn self.new }
     {
@@ -149,7 +157,7 @@ impl Kept {
         }
     }
 
-    /// Takes a step that was prepared over what is kept, with its change, which is the first of those that wait, if it makes one. It takes no memory.
+    /// Takes a step that was prepared over what is kept, with its change, which is the first of those that wait. It takes no memory.
     fn install_one(&mut self, step: GroupedStep, changes: &mut VecDeque<Change>)
         requires step { IsGrouped self.old step }
         requires own { AreOwn self.old }
@@ -166,21 +174,15 @@ impl Kept {
     }
 }
 
-/// What is kept after a step, with its change, which is the first of those that wait, if it makes one.
+/// What is kept after a step, with its change, which is the first of those that wait.
 fn whole(step: GroupedStep, changes: &mut VecDeque<Change>) -> Next
     requires next { step.next ≡ record step.whole.value.next { room = None; change = None } }
-    requires saves { step.saves ≡ is_some step.whole.value.next.change }
+    requires saves { IsSome step.whole.value.next.change }
     requires change { StartsWith step changes.old.items }
     ensures next { result ≡ record step.whole.value.next { room = None } }
     ensures changes { changes.new.items ≡ drop (length (listed step.whole.value.next.change)) changes.old.items }
 {
-    let GroupedStep {
-        mut next,
-        saves,
-        ..
-    } = step;
-    if saves {
-        next.change = changes.pop_front();
-    }
+    let GroupedStep { mut next, .. } = step;
+    next.change = changes.pop_front();
     next
 }

@@ -9,6 +9,8 @@ pub enum JoinFault {
     SameMessage,
     /// 3: 64 packets are in the group.
     Full,
+    /// 4: its step saves nothing: it is taken alone.
+    Idle,
     /// There was no memory for its step.
     Memory,
 }

@@ -11,6 +11,7 @@ mod kept;
 mod learning;
 mod queue_change;
 mod requesting;
+mod settling;
 mod setup;
 mod step;
 mod step_group;

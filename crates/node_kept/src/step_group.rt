@@ -1,7 +1,8 @@
 //! Several steps that wait to be saved together.
 
-ghost use Rattle.std.specs.Prelude.{◌≡◌, ◌==◌, None, Some, map, length};
-ghost use Rattle.std.specs.List.{list_any};
+ghost use Rattle.std.specs.Prelude.{◌≡◌, ◌==◌, IsSome, None, Some, map, length};
+ghost use Rattle.std.specs.List.{list_any, slice_get};
+ghost use Rattle.std.specs.Option.{option_copied};
 ghost use Rattle.mc_model.specs.node.Input.{Delivery};
 ghost use Rattle.node_model.specs.Stepped.{stepped};
 ghost use Rattle.synod_acceptor.specs.Packets.{packet_of};
@@ -54,7 +55,7 @@ impl StepGroup {
         &self.outputs
     }
 
-    /// The changes that are to be saved, in the order of their packets; there may be fewer than packets, and none.
+    /// The changes that are to be saved, in the order of their packets.
     pub fn changes(&self) -> &[Change]
         ensures { result.now ≡ self.now.changes }
     {
@@ -68,28 +69,38 @@ impl StepGroup {
         self.steps.len()
     }
 
-    /// Puts the step of a packet behind the others, if that may join. It takes no memory.
+    /// The packet at a place, from 0, in the order in which they joined; none behind the last.
+    pub fn packet(&self, place: usize) -> Option<&Packet>
+        ensures { option_copied result ≡ slice_get self.now.packets place }
+    {
+        match self.steps.get(place) {
+            Some(step) => Some(&step.packet),
+            None => None,
+        }
+    }
+
+    /// Puts the step of a packet behind the others, if that may join and changes a record. It takes no memory.
     pub(crate) fn put(&mut self, packet: Packet, id: MsgId, step: Step)
         requires asked { asked_in self.old.was.setup (packet_of packet) ≡ Some id }
         requires allowed { join_fault self.old packet ≡ None }
         requires alone { IsAlone id self.old.was (λ setup kept. stepped setup kept (Delivery (packet_of packet))) step }
+        requires saves { IsSome step.next.change }
         ensures { HasJoined self.old packet self.new }
     {
         let whole = Snapshot::of(&step);
         let Step { outputs, mut next } = step;
         next.room = None;
-        let change = next.change.take();
+        let Some(change) = next.change.take() else {
+            unreachable!();
+        };
         self.steps.push_reserved(GroupedStep {
             packet,
             id,
             next,
-            saves: change.is_some(),
             whole,
         });
         self.outputs.push_reserved(outputs);
-        if let Some(change) = change {
-            self.changes.push_reserved(change);
-        }
+        self.changes.push_reserved(change);
     }
 
     /// Whether a packet of this message is in it.

@@ -62,6 +62,7 @@ unmoved s = record {
   broken = refl;
   stored = record { records = λ records held. held; started = λ started has. has };
   unfinished = refl;
+  waiting = refl;
   stopped = refl;
 }
 

@@ -12,6 +12,8 @@ make-requires g c =
       saved = λ works. holds;
       own = (own_after (stored c.self.inside.store) (stored c.raise.new.store) c.self.inside.kept c.raise.new.kept c.self.invariant c.in-Ok.ensures.ok).own;
       finished = λ works. refl;
+      settled = λ works. refl;
+      pending = tt;
       halted = λ left may. g.met.S.StableStore.settled c.raise.new.store _ left holds may;
     }
 

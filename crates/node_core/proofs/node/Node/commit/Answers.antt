@@ -1,13 +1,13 @@
 use Rattle.std.proofs.Common.{rules, ◌≡◌, refl, sym, ap, subst, ◌∙◌, Bool, Option, true, false}
 use Rattle.std.proofs.lemmas.Bool.{true≢false}
 use Rattle.stable_store.specs.Stored.{Stays}
-use Rattle.synod_acceptor.specs.declared.packet.Packet.{Packet}
-use Rattle.node_core.specs.Nodes.{HasStopped, HasTaken, IsStored, IsUnmoved, Standing, records_in, seen}
+use Rattle.node_kept.specs.Grouping.{Grouped}
+use Rattle.node_core.specs.Nodes.{HasStopped, HasTaken, IsStored, IsUnmoved, Standing, packets_waiting, records_in, seen}
 use Rattle.node_core.specs.Pendings.{Awaited}
-use Rattle.node_core.specs.Stops.{IsUnfinished}
+use Rattle.node_core.specs.Stops.{IsUnknown}
 use Rattle.node_core.proofs.Committing.{taken}
 use Rattle.node_core.proofs.Stopping.{cut}
-use Rattle.node_core.proofs.Storing.{stored_once}
+use Rattle.node_core.proofs.Storing.{at_rest, stored_once}
 use Rattle.node_core.proofs.Unsaved.{saved_for}
 use Rattle.node_core.proofs.node.Node.commit.Goals as goal
 
@@ -18,6 +18,7 @@ returns-in-Ok-clause-ok g c =
       broken = c.self.inside.broken;
       store = c.save.new.store;
       unfinished = c.self.inside.unfinished;
+      waiting = packets_waiting c.self.inside.waiting;
       stopped = c.self.inside.stopped;
     } in
     let before : Standing g.row.S.Denot = record {
@@ -25,6 +26,7 @@ returns-in-Ok-clause-ok g c =
       broken = c.self.inside.broken;
       store = c.self.inside.store;
       unfinished = c.self.inside.unfinished;
+      waiting = packets_waiting c.self.inside.waiting;
       stopped = c.self.inside.stopped;
     } in
     let works : c.self.inside.broken ≡ false = search rules in
@@ -32,7 +34,7 @@ returns-in-Ok-clause-ok g c =
     ap (λ (p : Awaited). p.was) c.pending.view_is ∙ c.requires ∙ sym (ap (λ (n : Standing g.row.S.Denot). n.kept) c.self.view_is) in
     subst (λ (old : Standing g.row.S.Denot). HasTaken old c.args.pending.input new c.pending.inside.step.outputs) c.self.view_is
     (taken before new c.pending.inside.was.value c.args.pending.input c.pending.inside.given.value c.pending.inside.step kept
-    (ap (λ (p : Awaited). p.input) c.pending.view_is) c.pending.invariant.is c.install.ensures works refl refl)
+    (ap (λ (p : Awaited). p.input) c.pending.view_is) c.pending.invariant.is c.install.ensures works refl refl refl)
 
 pub invariant_of-self-in-Err-Device : goal.invariant_of-self-in-Err-Device
 invariant_of-self-in-Err-Device g c =
@@ -48,7 +50,10 @@ invariant_of-self-in-Err-Device g c =
       saved = λ works. absurd (true≢false works);
       own = c.self.invariant.own;
       finished = λ works. absurd (true≢false works);
-      halted = is.halted;
+      settled = λ works. absurd (true≢false works);
+      pending = c.self.invariant.pending;
+      halted = λ left may. subst (λ (w : Option Grouped). IsUnknown c.self.inside.kept left c.pending.inside.packet (packets_waiting w))
+          (sym (c.self.invariant.settled works)) (is.halted left may);
     }
 
 pub returns-in-Err-Device-clause-device : goal.returns-in-Err-Device-clause-device
@@ -59,6 +64,7 @@ returns-in-Err-Device-clause-device g c = λ device.
       broken = true;
       store = c.save.new.store;
       unfinished = c.pending.inside.packet;
+      waiting = packets_waiting c.self.inside.waiting;
       stopped = c.self.inside.stopped;
     } in
     let works : c.self.inside.broken ≡ false = search rules in
@@ -77,6 +83,7 @@ returns-in-Err-Device-clause-device g c = λ device.
       packet = is.packet;
       came = is.came;
       unfinished = is.is;
+      waiting = refl;
       stopped = refl;
     })
 
@@ -91,8 +98,10 @@ invariant_of-self-in-Err g c =
       saved = λ works. holds;
       own = c.self.invariant.own;
       finished = c.self.invariant.finished;
-      halted = λ left may. subst (λ (packet : Option Packet). IsUnfinished kept left packet) (sym (c.self.invariant.finished works))
-          (g.met.S.StableStore.settled c.save.new.store (records_in kept) left holds may);
+      settled = c.self.invariant.settled;
+      pending = c.self.invariant.pending;
+      halted = λ left may. at_rest kept left c.self.inside.unfinished c.self.inside.waiting (c.self.invariant.finished works)
+          (c.self.invariant.settled works) (g.met.S.StableStore.settled c.save.new.store (records_in kept) left holds may);
     }
 
 pub returns-clause-broken : goal.returns-clause-broken
@@ -106,10 +115,11 @@ returns-clause-memory g c = λ wanted.
       broken = c.self.inside.broken;
       store = c.save.new.store;
       unfinished = c.self.inside.unfinished;
+      waiting = packets_waiting c.self.inside.waiting;
       stopped = c.self.inside.stopped;
     } in
     subst (λ (old : Standing g.row.S.Denot). IsUnmoved (seen stored old) (seen stored new)) c.self.view_is
-    (record { kept = refl; broken = refl; stored = c.in-Err.ensures.memory (search rules); unfinished = refl; stopped = refl })
+    (record { kept = refl; broken = refl; stored = c.in-Err.ensures.memory (search rules); unfinished = refl; waiting = refl; stopped = refl })
 
 pub returns-clause-device : goal.returns-clause-device
 returns-clause-device g c = search rules
@@ -129,9 +139,10 @@ invariant_of-self g c =
     let kept : c.pending.inside.was.value ≡ c.self.inside.kept =
     ap (λ (p : Awaited). p.was) c.pending.view_is ∙ c.requires ∙ sym (ap (λ (n : Standing g.row.S.Denot). n.kept) c.self.view_is) in
     let input : c.pending.inside.given.value ≡ c.args.pending.input = ap (λ (p : Awaited). p.input) c.pending.view_is in
-    let once : IsStored false (stored c.save.new.store) c.self.inside.unfinished c.install.new.self =
+    let once : IsStored false (stored c.save.new.store) c.self.inside.unfinished c.self.inside.waiting c.install.new.self =
     stored_once c.self.inside.kept c.pending.inside.was.value c.install.new.self c.args.pending.input c.pending.inside.given.value
-    c.pending.inside.step c.pending.inside.packet c.self.inside.unfinished (stored c.self.inside.store) (stored c.save.new.store) kept input
+    c.pending.inside.step c.pending.inside.packet c.self.inside.unfinished c.self.inside.waiting (stored c.self.inside.store) (stored c.save.new.store)
+    kept input
     c.pending.invariant c.install.ensures c.in-Ok.ensures.ok (g.met.S.StableStore.settled c.save.new.store)
-    (subst (λ (b : Bool). IsStored b (stored c.self.inside.store) c.self.inside.unfinished c.self.inside.kept) works c.self.invariant) in
-    subst (λ (b : Bool). IsStored b (stored c.save.new.store) c.self.inside.unfinished c.install.new.self) (sym works) once
+    (subst (λ (b : Bool). IsStored b (stored c.self.inside.store) c.self.inside.unfinished c.self.inside.waiting c.self.inside.kept) works c.self.invariant) in
+    subst (λ (b : Bool). IsStored b (stored c.save.new.store) c.self.inside.unfinished c.self.inside.waiting c.install.new.self) (sym works) once

@@ -1,14 +1,15 @@
-use Rattle.std.proofs.Common.{◌≡◌, refl, ap, subst, sym, ◌∙◌, Bool, false, Option}
+use Rattle.std.proofs.Common.{◌≡◌, refl, ap, subst, sym, ◌∙◌, Bool, false, List, [], Option}
 use Rattle.std.proofs.lemmas.Bool.{true≢false}
 use Rattle.mc_model.specs.node.Setup.{Setup}
 use Rattle.stable_store.specs.Stored.{LeavesNext, Stored}
 use Rattle.stable_store.specs.declared.fault.StoreFault.{StoreFault}
 use Rattle.synod_acceptor.specs.declared.packet.Packet.{Packet as Sent}
+use Rattle.node_kept.specs.Grouping.{Grouped}
 use Rattle.node_kept.specs.Keeping.{IsOpen}
 use Rattle.node_kept.specs.declared.kept.Kept.{Kept}
 use Rattle.node_kept.specs.Finding.{IsFound}
-use Rattle.node_core.specs.Nodes.{IsStored, OpensOver, Standing, StaysAt, breaks, records_in}
-use Rattle.node_core.specs.Stops.{IsTold}
+use Rattle.node_core.specs.Nodes.{IsStored, OpensOver, Standing, StaysAt, breaks, packets_waiting, records_in}
+use Rattle.node_core.specs.Stops.{IsTold, IsUnknown}
 use Rattle.node_core.proofs.Opening.{opened, stays_if}
 use Rattle.node_core.proofs.Stopping.{tells}
 use Rattle.node_core.proofs.node.Node.reopen.Goals.{then-self, else-self}
@@ -22,6 +23,7 @@ returns-in-Ok-clause-ok g c =
       broken = false;
       store = c.begin.new.store;
       unfinished = c.take.new.self;
+      waiting = packets_waiting c.self.inside.waiting;
       stopped = c.told.result;
     } in
     let setup = c.self.inside.kept.setup in
@@ -43,17 +45,22 @@ returns-in-Ok-clause-told g c = λ none.
     let kept = c.in-Ok.kept in
     let found : IsFound (records_in kept) c.self.inside.unfinished c.told.result =
     subst (λ (o : Option Sent). IsFound (records_in kept) o c.told.result) c.take.ensures.value c.told.ensures in
+    let settled : packets_waiting c.self.inside.waiting ≡ [] =
+    ap (λ (n : Standing g.row.S.Denot). n.waiting) c.self.view_is ∙ c.waits.ensures.0 c.if-waits.false in
     let is = tells c.self.inside.kept (records_in kept) c.self.inside.unfinished c.told.result
-    (c.self.invariant.halted (records_in kept) (c.in-Ok.ensures.found.found none)) found in
+    (subst (λ (packets : List Sent). IsUnknown c.self.inside.kept (records_in kept) c.self.inside.unfinished packets) settled
+    (c.self.invariant.halted (records_in kept) (c.in-Ok.ensures.found.found none))) found in
     subst (λ (old : Standing g.row.S.Denot). IsTold old.kept (records_in kept) old.unfinished c.told.result) c.self.view_is is
 
-still_stored : (old new : Bool) (fault : StoreFault) (before after : Stored) (unfinished : Option Sent) (k : Kept) → (new ≡ false → old ≡ false) →
-    (new ≡ false → breaks fault ≡ false) → StaysAt fault before after → LeavesNext before after → IsStored old before unfinished k →
-    IsStored new after unfinished k
-still_stored old new fault before after unfinished k works kind stays leaves is = record {
+still_stored : (old new : Bool) (fault : StoreFault) (before after : Stored) (unfinished : Option Sent) (waiting : Option Grouped) (k : Kept) →
+    (new ≡ false → old ≡ false) → (new ≡ false → breaks fault ≡ false) → StaysAt fault before after → LeavesNext before after →
+    IsStored old before unfinished waiting k → IsStored new after unfinished waiting k
+still_stored old new fault before after unfinished waiting k works kind stays leaves is = record {
   saved = λ sound. (stays_if fault before after (kind sound) stays).records (records_in k) (is.saved (works sound));
   own = is.own;
   finished = λ sound. is.finished (works sound);
+  settled = λ sound. is.settled (works sound);
+  pending = is.pending;
   halted = λ left may. is.halted left (leaves.records left may);
 }
 
@@ -70,5 +77,6 @@ invariant_of-self-in-Err g c =
       | else-self w ↦ sym w.breaks-self-inside.ensures ∙ sym w.self-is ∙ sound
     ] in
     still_stored c.self.inside.broken c.if-self.self c.in-Err.fault (g.S.StableStore.stored c.self.inside.store)
-    (g.S.StableStore.stored c.begin.new.store) c.self.inside.unfinished c.self.inside.kept works kind c.in-Err.ensures.stays c.in-Err.ensures.left
+    (g.S.StableStore.stored c.begin.new.store) c.self.inside.unfinished c.self.inside.waiting c.self.inside.kept works kind c.in-Err.ensures.stays
+    c.in-Err.ensures.left
     c.self.invariant

@@ -42,7 +42,8 @@ returns-clause-taken c =
 pub returns-clause-records : goal.returns-clause-records
 returns-clause-records c = λ slot.
     let none : c.loop-step.left.items ≡ [] = search rules in
-    ap (λ (records : Records). records slot) (all_taken c.args.self.now c.loop-step.self _ c.loop-step.left.items _ c.loop-step.waiting.items none c.loop-step.invariant).records
+    ap (λ (records : Records). records slot)
+    (all_taken c.args.self.now c.loop-step.self _ c.loop-step.left.items _ c.loop-step.waiting.items none c.loop-step.invariant).records
 
 pub returns-clause-own : goal.returns-clause-own
 returns-clause-own c =
