@@ -11,6 +11,9 @@ pub mod Finding
 pub mod Faults
 pub mod Readies
 pub mod Members
+pub mod Entering
+pub mod Gathering
+pub mod Batches
 pub mod Reopening
 pub mod Closing
 pub mod GoingOn

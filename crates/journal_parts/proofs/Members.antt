@@ -4,7 +4,7 @@ use Rattle.mc_model.specs.synod.Lists.{In}
 use Rattle.mc_model.specs.node.Input.{Input}
 use Rattle.mc_model.specs.node.Setup.{Setup}
 use Rattle.mc_model.specs.cluster.Steps.{Cluster, setup_of}
-use Rattle.mc_parts.proofs.Membership.{in_either, in_right}
+use Rattle.mc_parts.proofs.Membership.{in_either}
 use Rattle.node_model.specs.Kept.{Kept}
 use Rattle.node_model.specs.Stepped.{stepped}
 use Rattle.stable_store.specs.Stored.{Stored}
@@ -18,7 +18,7 @@ use Rattle.journal_laws.specs.Journals.{Entry, IsInRange, IsOwnRun, done_in}
 use Rattle.journal_laws.proofs.Growing.{one_more}
 use Rattle.journal_parts.specs.declared.done.Done.{Done as Taken}
 use Rattle.journal_parts.specs.Entries.{done_of}
-use Rattle.journal_parts.specs.Members.{IsBeginning, IsMember, IsNewest, IsReady, Posted, Rests, Takes, packet_halted}
+use Rattle.journal_parts.specs.Members.{IsBeginning, IsMember, IsReady, Posted, Rests, Takes, packet_halted}
 
 module _ {S : Type 0} (stored : S → Stored) (cluster : Cluster) (kept : ℕ → Kept) where
   -- It took a step that was prepared, and its entry stands behind its own.
@@ -88,9 +88,7 @@ module _ {S : Type 0} (stored : S → Stored) (cluster : Cluster) (kept : ℕ �
     is_end = λ still. refl;
   }
 
-  -- The node of its newest entry is one of the cluster.
-  pub newest_within : (post : Posted S) (own : List Entry) (entry : Entry) → IsMember stored cluster kept post own → IsNewest entry own →
+  -- The node of one of its entries is one of the cluster.
+  pub among_within : (post : Posted S) (own : List Entry) (entry : Entry) → IsMember stored cluster kept post own → In entry own →
       IsInRange cluster (node_at entry.done.step)
-  newest_within post own entry member newest =
-      let among : In entry own = subst (λ (es : List Entry). In entry es) (sym newest.1) (in_right entry newest.0 (entry ∷ []) (inl refl)) in
-      subst (λ (n : ℕ). IsInRange cluster n) (sym (member.entries entry among)) member.within
+  among_within post own entry member among = subst (λ (n : ℕ). IsInRange cluster n) (sym (member.entries entry among)) member.within

@@ -45,7 +45,7 @@ comes_so setup k (steps.Tick node moment reach) packet (given.Answered slot outc
 comes_so setup k (steps.Crash node number found) packet input comes = absurd comes
 comes_so setup k (steps.Restart node) packet input comes = absurd comes
 
-taken_by : {S : Type 0} (node : Standing S) (input : Given) (done : Done) → ComesWith done.step done.packet input →
+pub taken_by : {S : Type 0} (node : Standing S) (input : Given) (done : Done) → ComesWith done.step done.packet input →
     MayCome node.kept.setup (kept_of node.kept) (input_of node.kept.setup (kept_of node.kept) input) →
     outputs_of done.outputs ≡ (stepped node.kept.setup (kept_of node.kept) (input_of node.kept.setup (kept_of node.kept) input)).outputs →
     IsTakenBy node.kept.setup (kept_of node.kept) (input_of node.kept.setup (kept_of node.kept) input) (done_of done)

@@ -15,6 +15,8 @@ pub mod Numbers
 pub mod Marks
 pub mod Registers
 pub mod Members
+pub mod Gathering
+pub mod Batches
 pub mod Closing
 pub mod GoingOn
 pub mod Histories

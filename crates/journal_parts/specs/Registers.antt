@@ -123,3 +123,25 @@ pub record HasEntered (old : List Entry) (entry : Entry) (new : List Entry) (sli
   pub entries : new ≡ old ++ entry ∷ []
   pub number : slip.number ≡ length new
   pub is : slip.entry ≡ entry
+
+-- ---- several entries
+
+-- The first of these entries are the last ones.
+pub record EntersThose (old entries new : List Entry) : Type 0 where
+  pub front : List Entry
+  pub left : List Entry
+  pub are : entries ≡ front ++ left
+  pub behind : new ≡ old ++ front
+
+-- The slips of the first of these entries were added, in their order.
+pub record EntersFront (old : List Slipped) (entries : List Entry) (new : List Slipped) : Type 0 where
+  pub slips : List Slipped
+  pub left : List Entry
+  pub are : entries ≡ map (λ (slip : Slipped). slip.entry) slips ++ left
+  pub behind : new ≡ old ++ slips
+
+-- The slips of all of these entries were added, in their order.
+pub record EntersEach (old : List Slipped) (entries : List Entry) (new : List Slipped) : Type 0 where
+  pub slips : List Slipped
+  pub are : entries ≡ map (λ (slip : Slipped). slip.entry) slips
+  pub behind : new ≡ old ++ slips

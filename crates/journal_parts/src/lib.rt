@@ -1,6 +1,7 @@
 //! What stands under the locks of nodes in threads: each node with its own steps, and the journal of all.
 #![tactic(auto)]
 
+mod batch;
 mod begins;
 mod carried;
 mod claim;
@@ -16,6 +17,7 @@ mod member;
 mod noted;
 mod post;
 mod ready;
+mod ready_group;
 mod refusal;
 mod register;
 mod seat;
@@ -24,7 +26,8 @@ mod slip;
 
 pub use begins::Begins;
 pub use carried::Carried;
-pub use claim::Claim;
+pub use batch::Batch;
+pub use claim::{Claim, Claims};
 pub use copies::EntryCopies;
 pub use done::Done;
 pub use entry::{Entry, Unfinished};
@@ -34,6 +37,7 @@ pub use member::Member;
 pub use node_entry::{MayBegin, MessageIds, Reach, Step};
 pub use post::Post;
 pub use ready::Ready;
+pub use ready_group::ReadyGroup;
 pub use refusal::Refusal;
 pub use register::{MOST_ENTRIES, MOST_SEATS, Register};
 pub use seat::Seat;

@@ -1,6 +1,6 @@
 //! A node and its own steps, under its lock.
 
-ghost use Rattle.std.specs.Prelude.{◌≡◌, ◌≤◌, ◌∷◌, ◌++◌, ◌||◌, [], None, Some, IfOk, IfSome, OnErr, OnOk, false, true, map, ◌<◌, ◌⊎◌, ◌↔◌, IfErr, IsErrOf, IsSome};
+ghost use Rattle.std.specs.Prelude.{◌≡◌, ◌≤◌, ◌-◌, ◌∷◌, ◌++◌, ◌||◌, [], List, length, None, Some, IfOk, IfSome, OnErr, OnOk, false, true, map, ◌<◌, ◌⊎◌, ◌↔◌, IfErr, IsErrOf, IsSome};
 ghost use Rattle.node_core.specs.Keeping.{kept_of};
 ghost use Rattle.node_core.specs.Nodes.{IsLifeOf, fault_in};
 ghost use Rattle.node_model.specs.Kept.{message_at};
@@ -9,7 +9,12 @@ ghost use Rattle.node_core.specs.Permits.{IsAnswered, IsGrant, is_life_of};
 ghost use Rattle.node_entry.specs.declared.step.Step.TheVariants as steps;
 ghost use Rattle.node_entry.specs.Taking.{node_at};
 ghost use Rattle.node_core.specs.Setups.{IsSetup};
+ghost use Rattle.std.specs.Arc.{arc_value};
+ghost use Rattle.std.specs.Vec.{vec_capacity, vec_len};
+ghost use Rattle.node_core.specs.Grouping.{HasJoined};
+ghost use Rattle.journal_laws.specs.Journals.{Entry as Written};
 ghost use Rattle.journal_parts.specs.Entries.{IsAnew, done_of, entry_of, number_by};
+ghost use Rattle.journal_parts.specs.Gathering.{AllDeliver, AreNumbered, entry_done};
 ghost use Rattle.journal_parts.specs.Members.{CanBeTaken, ComesWith, IsBeginning, IsMember, packet_halted, posted};
 ghost use Rattle.journal_parts.specs.Faults.{fault_at};
 ghost use Rattle.journal_parts.specs.Refusals.{IsRefusedAs};
@@ -21,16 +26,20 @@ use crate::begins::Begins;
 use crate::copies::EntryCopies;
 use crate::entry::Entry;
 use crate::post::Post;
+use crate::done::Done;
 use crate::ready::Ready;
+use crate::ready_group::ReadyGroup;
 use crate::refusal::Refusal;
 use crate::silent::Silent;
 use fate_chain::Chain;
 use mc_types::{MsgId, NodeNo};
-use node_core::{Life, Node, Permit};
+use node_core::{JoinFault, Life, Node, Permit, StepGroup};
 use node_entry::Step;
-use stable_store::StableStore;
+use stable_store::{GroupStore, StableStore};
 use std::alloc::{AllocError, Global};
+use std::collections::VecDeque;
 use std::marker::{Model, PhantomData};
+use std::sync::Arc;
 use synod_acceptor::Packet;
 
 /// A node and its own entries, which are its run from what it keeps where the journal begins. Contracts see the node, the packet in the save of whose step it
@@ -160,6 +169,7 @@ impl<S: StableStore, L: Begins> Member<S, L> {
         ensures own { IfOk result (λ copies. self.new.own ≡ self.old.own ++ copies ∷ []) }
         ensures back { IfErr result (λ back. back ≡ silent) }
         ensures stays { OnErr result (self.new ≡ self.old) }
+        ensures setup { self.new.post.node.kept.setup ≡ self.old.post.node.kept.setup }
     {
         let Silent { done, copies } = silent;
         if !self.post.take_quietly(&done) {
@@ -353,5 +363,82 @@ impl<S: StableStore, L: Begins> Member<S, L> {
         ensures { posted result ≡ self.post }
     {
         self.post
+    }
+}
+
+impl<S: StableStore, L: Begins> Member<S, L> {
+    /// Begins a group of no packets over what the node keeps. It changes nothing. Broken exactly if a save failed before; else an `Err` is want of memory.
+    pub fn begin_group(&self) -> Result<StepGroup, Refusal>
+        ensures was { IfOk result (λ group. group.was ≡ self.now.post.node.kept) }
+        ensures packets { IfOk result (λ group. group.packets ≡ []) }
+        ensures broken { IsErrOf result Broken ↔ (self.now.post.node.broken ≡ true) }
+        ensures faults { IfErr result (λ refusal. (refusal ≡ Broken) ⊎ (refusal ≡ Memory)) }
+    {
+        Ok(self.post.node.begin_group()?)
+    }
+
+    /// Prepares the step of a packet and puts it behind the others of a group that was begun over what the node keeps. The node stays as it is. An `Err` hands
+    /// the packet back, as `Node::join` says, and leaves the group as it was.
+    pub fn join(&self, group: &mut StepGroup, packet: Packet) -> Result<(), (JoinFault, Packet)>
+        requires { group.old.was ≡ self.now.post.node.kept }
+        ensures joined { OnOk result (HasJoined group.old packet group.new) }
+        ensures back { IfErr result (λ failed. failed.1 ≡ packet) }
+        ensures stays { OnErr result (group.new ≡ group.old) }
+    {
+        self.post.node.join(group, packet)
+    }
+
+    /// Makes the entries of a group, whose packets have these numbers: it changes nothing but the room for entries. An `Err` is want of memory.
+    pub fn gather(&mut self, group: StepGroup, numbers: &[u64]) -> Result<ReadyGroup, AllocError>
+        requires was { group.was ≡ self.old.post.node.kept }
+        requires numbers { length numbers.now ≡ length group.packets }
+        ensures was { IfOk result (λ ready. ready.was ≡ group.was) }
+        ensures count { IfOk result (λ ready. length ready.dones ≡ length group.packets) }
+        ensures steps { IfOk result (λ ready. AllDeliver self.old.post.node.kept.setup.node ready.dones) }
+        ensures numbers { IfOk result (λ ready. AreNumbered self.old.post.node.kept.setup.node numbers.now ready.dones) }
+        ensures room { IfOk result (λ ready. length ready.dones ≤ self.new.room) }
+        ensures post { self.new.post ≡ self.old.post }
+        ensures own { self.new.own ≡ self.old.own }
+    {
+        self.own.reserve(numbers.len())?;
+        ReadyGroup::of(*self.own.allocator(), self.node(), group, numbers)
+    }
+}
+
+impl<S: GroupStore, L: Begins> Member<S, L> {
+    /// Commits a group of this node that was prepared, if the node is as it was then and is not astray, and adds the entries of the steps that were taken to its
+    /// own: these, for those that share them, the first of them first, and why there are no more, if there are not all. It takes no memory but what the store
+    /// takes. Broken exactly if a save failed before; Device only if the device failed, and then the node is Broken, and astray if it can't be found out what
+    /// is stored of the group; else Memory, from the store.
+    pub fn commit_all(&mut self, ready: ReadyGroup) -> (Vec<EntryCopies>, Option<Refusal>)
+        requires was { ready.was ≡ self.old.post.node.kept }
+        requires room { length ready.dones ≤ self.old.room }
+        requires sound { self.old.post.astray ≡ false }
+        ensures own { self.new.own ≡ self.old.own ++ result.0.items }
+        ensures front { (left : List Written) × (map entry_done ready.dones ≡ result.0.items ++ left) }
+        ensures all { result.1 ≡ None → result.0.items ≡ map entry_done ready.dones }
+        ensures faults { IfSome result.1 (λ refusal. (refusal ≡ Broken) ⊎ (refusal ≡ Device) ⊎ (refusal ≡ Memory)) }
+        ensures setup { self.new.post.node.kept.setup ≡ self.old.post.node.kept.setup }
+    {
+        let ReadyGroup {
+            group,
+            dones,
+            mut copies,
+        } = ready;
+        let (taken, fault) = self.post.commit_all(group, dones);
+        copies.truncate(taken.len());
+        push_each(&mut self.own, taken);
+        (copies, fault)
+    }
+}
+
+/// Adds the entries of steps, for which there is room. It takes no memory.
+fn push_each(own: &mut Vec<Entry>, dones: Vec<Arc<Done>>)
+    requires { length dones.items ≤ vec_capacity own.old - vec_len own.old }
+    ensures { map entry_of own.new.items ≡ map entry_of own.old.items ++ map entry_done (map arc_value dones.items) }
+{
+    let mut left = VecDeque::from_vec(dones);
+    while let Some(done) = left.pop_front() {
+        own.push_reserved(Entry::of(done));
     }
 }

@@ -1,6 +1,6 @@
 //! A node, and the save in which it stopped.
 
-ghost use Rattle.std.specs.Prelude.{◌≡◌, ◌⊎◌, ◌↔◌, ◌<◌, None, Some, IfErr, IfOk, IfSome, IsErrOf, IsSome, OnErr, OnOk, false, true, option_map};
+ghost use Rattle.std.specs.Prelude.{◌≡◌, ◌≢◌, ◌⊎◌, ◌↔◌, ◌<◌, ◌++◌, [], List, None, Some, IfErr, IfOk, IfSome, IsErrOf, IsSome, OnErr, OnOk, false, true, length, map, option_map};
 ghost use Rattle.std.specs.Option.{option_copied};
 ghost use Rattle.synod_acceptor.specs.Packets.{packet_of};
 ghost use Rattle.node_laws.specs.Steps.{IsWellMade};
@@ -11,7 +11,9 @@ ghost use Rattle.node_model.specs.Stepped.{stepped};
 ghost use Rattle.node_core.specs.Keeping.{kept_of};
 ghost use Rattle.node_core.specs.Steps.{input_of, outputs_of};
 ghost use Rattle.journal_parts.specs.Entries.{number_by, save_of};
+ghost use Rattle.journal_parts.specs.declared.done.Done.{Done as Taken};
 ghost use Rattle.journal_parts.specs.Faults.{fault_at};
+ghost use Rattle.journal_parts.specs.Gathering.{AllDeliver, AreGathered, IsHaltedAt, TakesSeveral};
 ghost use Rattle.journal_parts.specs.Members.{CanBeTaken, ComesWith, Reopens, Rests, Strays, Takes, TakesQuietly, halt_of, packet_halted, posted, save_by};
 ghost use Rattle.journal_parts.specs.Refusals.{IsRefusedAs};
 ghost use Rattle.journal_parts.specs.declared.refusal.Refusal.TheVariants.{Broken, Damaged, Device, Memory, Spent};
@@ -23,10 +25,10 @@ use crate::done::Done;
 use crate::entry::{Entry, Unfinished};
 use crate::ready::Ready;
 use crate::refusal::Refusal;
-use node_core::{Life, Node, Pending, Permit, StepFault, Stopped};
+use node_core::{Life, Node, Pending, Permit, StepFault, StepGroup, Stopped};
 use node_entry::Step;
 use node_runs::{is_well_made, may_come};
-use stable_store::StableStore;
+use stable_store::{GroupStore, StableStore};
 use std::alloc::AllocError;
 use std::sync::Arc;
 use synod_acceptor::Packet;
@@ -202,6 +204,76 @@ impl<S: StableStore> Post<S> {
             None => Ok(None),
         }
     }
+}
+
+impl<S: GroupStore> Post<S> {
+    /// Does what was prepared of a group, whose steps these are, if the node is as it was then and is not astray: those that were taken, the first of them first,
+    /// and why there are no more, if there are not all. It takes no memory but what the store takes. Broken exactly if a save failed before; at Memory, from the
+    /// store, none is taken. At Device, which comes only if the device failed, the node is Broken, and what is found of the group decides: if nothing, none is
+    /// taken, and the post has the first step; if all, all are but the last, which the post has. If that can't be found out the node is astray.
+    pub(crate) fn commit_all(
+        &mut self,
+        group: StepGroup,
+        dones: Vec<Arc<Done>>,
+    ) -> (Vec<Arc<Done>>, Option<Refusal>)
+        requires was { group.was ≡ self.old.node.kept }
+        requires gathered { AreGathered group.was group.packets (map arc_value dones.items) }
+        ensures takes { TakesSeveral S.stored (posted self.old) (map arc_value result.0.items) (posted self.new) }
+        ensures front { (left : List Taken) × (map arc_value dones.items ≡ map arc_value result.0.items ++ left) }
+        ensures all { result.1 ≡ None → result.0.items ≡ dones.items }
+        ensures sound { result.1 ≡ None → self.new.astray ≡ self.old.astray }
+        ensures faults { IfSome result.1 (λ refusal. (refusal ≡ Broken) ⊎ (refusal ≡ Device) ⊎ (refusal ≡ Memory)) }
+    {
+        match self.node.commit_all(group) {
+            Ok(outputs) => {
+                drop(outputs);
+                (dones, None)
+            }
+            Err(StepFault::Device) => (self.found(dones), Some(Refusal::Device)),
+            Err(fault) => {
+                let mut none = dones;
+                none.clear();
+                (none, Some(Refusal::from(fault)))
+            }
+        }
+    }
+
+    /// Finds out what is stored of a group whose save failed, of which these are the steps: those that were taken. It takes no memory but what the store takes.
+    fn found(&mut self, dones: Vec<Arc<Done>>) -> Vec<Arc<Done>>
+        requires gathered { AreGathered self.old.node.kept self.old.node.waiting (map arc_value dones.items) }
+        requires waits { self.old.node.waiting ≢ [] }
+        ensures takes { TakesSeveral S.stored (posted self.old) (map arc_value result.items) (posted self.new) }
+        ensures front { (left : List Taken) × (map arc_value dones.items ≡ map arc_value result.items ++ left) }
+    {
+        match self.node.settle() {
+            Ok(outputs) => {
+                let (taken, halted) = halted_at(dones, outputs.len());
+                drop(outputs);
+                self.halted = Some(halted);
+                taken
+            }
+            Err(_) => {
+                self.astray = true;
+                let mut none = dones;
+                none.clear();
+                none
+            }
+        }
+    }
+}
+
+/// The step at a place of these, in the save of which a node stopped, and those before it.
+fn halted_at(dones: Vec<Arc<Done>>, place: usize) -> (Vec<Arc<Done>>, Halted)
+    requires place { place < length dones.items }
+    requires deliver { (node : _) × AllDeliver node (map arc_value dones.items) }
+    ensures { IsHaltedAt (map arc_value dones.items) place (map arc_value result.0.items) (halt_of result.1).1 }
+{
+    let mut taken = dones;
+    taken.truncate(place + 1);
+    let Some(done) = taken.pop() else {
+        unreachable!();
+    };
+    (taken, halted_by(done))
 }
 
 /// The save that a node had not finished, as it tells once it was opened again.

@@ -1,23 +1,25 @@
 //! The journal of all nodes, under its lock.
 
 ghost use Rattle.std.specs.Prelude.{◌≡◌, ◌⊎◌, ◌↔◌, ◌+◌, ◌-◌, ◌≤◌, ◌<◌, [], ◌∷◌, ◌++◌, false, true, IfErr};
-ghost use Rattle.std.specs.Prelude.{IsErrOf, IfOk, IfSome, IfNone, IsNone, IsSome, OnErr, OnOk, OnSome, IsTrue, length, map, option_map, None, Some};
+ghost use Rattle.std.specs.Prelude.{List, IsErrOf, IfOk, IfSome, IfNone, IsNone, IsSome, OnErr, OnOk, OnSome, IsTrue, length, map, option_map, None, Some};
 ghost use Rattle.std.specs.Arc.{arc_value};
 ghost use Rattle.std.specs.Option.{option_copied};
 ghost use Rattle.synod_acceptor.specs.Packets.{packet_of};
 ghost use Rattle.mc_model.specs.synod.Lists.{In};
-ghost use Rattle.journal_laws.specs.Journals.{HasItsNumber};
+ghost use Rattle.journal_laws.specs.Journals.{Entry as Written, HasItsNumber};
+ghost use Rattle.journal_parts.specs.Batches.{Covers};
 ghost use Rattle.journal_parts.specs.Entries.{IsSound, entry_of, number_by};
 ghost use Rattle.journal_parts.specs.Members.{CanBeTaken, IsAct, IsNewest};
 ghost use Rattle.journal_parts.specs.Numbers.{RiseWithin, none_sent};
 ghost use Rattle.journal_parts.specs.Registers.{AsksInVain, CameFrom, ComesAsNumbered, HasEntered, HasPacket, IsAbsent, IsAskedFor, IsUnsent, MayEnter};
-ghost use Rattle.journal_parts.specs.Registers.{carried_under, packet_under, sent_under};
+ghost use Rattle.journal_parts.specs.Registers.{EntersEach, EntersFront, EntersThose, carried_under, packet_under, sent_under};
 ghost use Rattle.journal_parts.specs.declared.carried.Carried.{Carried as Again};
 ghost use Rattle.journal_parts.specs.declared.refusal.Refusal.TheVariants.{Broken, Full, Memory, NoSuchPacket};
 
 use crate::begins::Begins;
 use crate::carried::Carried;
-use crate::claim::Claim;
+use crate::batch::{Batch, MOST_AT_ONCE};
+use crate::claim::{Claim, Claims};
 use crate::copies::EntryCopies;
 use crate::entry::Entry;
 use crate::marks::Marks;
@@ -29,6 +31,7 @@ use crate::slip::Slip;
 use node_entry::Step;
 use stable_store::StableStore;
 use std::alloc::{AllocError, Global};
+use std::collections::VecDeque;
 use std::marker::Model;
 use std::sync::ledger::{Blank, Book, Share};
 use synod_acceptor::Packet;
@@ -237,6 +240,56 @@ impl<L: Begins> Register<L> {
         }
     }
 
+    /// Claims room for the entry of a step beside others, and gives the packet that comes by the step, if one does. An `Err` is one of `admit`, and claims nothing.
+    pub fn admit_beside(
+        &mut self,
+        claims: &mut Claims<L>,
+        step: &Step,
+        broken: bool,
+    ) -> Result<Option<Packet>, Refusal>
+        requires { IsAct step.now }
+        ensures packet { IfOk result (CanBeTaken step.now) }
+        ensures faults { IfErr result (λ refusal. (refusal ≡ Full) ⊎ (refusal ≡ Broken) ⊎ (refusal ≡ NoSuchPacket) ⊎ (refusal ≡ Memory)) }
+        ensures entries { self.new.entries ≡ self.old.entries }
+    {
+        let (claim, packet) = self.admit(step, broken)?;
+        claims.add(claim);
+        Ok(packet)
+    }
+
+    /// Gives one of several claims back, if there is one.
+    pub fn give_one_back(&mut self, claims: &mut Claims<L>)
+        ensures entries { self.new.entries ≡ self.old.entries }
+    {
+        if let Some(claim) = claims.take() {
+            self.give_back(claim);
+        }
+    }
+
+    /// Gives several claims back: their room is free again.
+    pub fn give_back_all(&mut self, claims: Claims<L>)
+        ensures entries { self.new.entries ≡ self.old.entries }
+    {
+        self.claims = self.claims.saturating_sub(claims.spend());
+    }
+
+    /// The packets to be handed in at once, from the first of these numbers on up to the last, 64 at most, as far as each has a packet: up to the second one of a
+    /// message by which something may be saved. An `Err` is want of memory.
+    pub fn batch(&self, alloc: Global, first: u64, last: u64) -> Result<Batch, AllocError>
+        ensures { IfOk result (λ batch. Covers first batch.saving.items batch.others.items) }
+    {
+        let mut batch = Batch::none(alloc);
+        for number in first..=last.min(first.saturating_add(MOST_AT_ONCE - 1)) {
+            let Some(packet) = self.packet(number) else {
+                break;
+            };
+            if !batch.add(number, packet)? {
+                break;
+            }
+        }
+        Ok(batch)
+    }
+
     /// Gives a claim back: its room is free again.
     pub fn give_back(&mut self, claim: Claim<L>)
         ensures claims { self.new.claims ≡ self.old.claims - 1 }
@@ -328,6 +381,30 @@ impl<L: Begins> Register<L> {
         ensures carried { self.new.carried ≡ self.old.carried }
         ensures seats { self.new.seats ≡ self.old.seats }
     {
+        self.enter_own(member, seat, claim, copies)
+    }
+
+    /// The same of any of its own entries.
+    fn enter_own<S: StableStore>(
+        &mut self,
+        member: &Member<S, L>,
+        seat: &mut Seat<L>,
+        claim: Claim<L>,
+        copies: EntryCopies,
+    ) -> Option<Slip>
+        requires among { In copies member.now.own }
+        requires sound { IsSound copies }
+        requires room { 1 ≤ seat.old.room }
+        ensures entered { IfSome result (HasEntered self.old.entries copies self.new.entries) }
+        ensures slips { IfSome result (λ slip. seat.new.slips ≡ seat.old.slips ++ slip ∷ []) }
+        ensures left { IfSome result (λ slip. seat.new.room + 1 ≡ seat.old.room) }
+        ensures may { IsSome result ↔ MayEnter L.numbers self.old copies }
+        ensures none { IfNone result ((self.new ≡ record self.old { claims = self.old.claims - 1 }) × (seat.new.slips ≡ seat.old.slips)) }
+        ensures claims { OnSome result (self.new.claims + 1 ≡ self.old.claims) }
+        ensures room { OnSome result (self.new.room + 1 ≡ self.old.room) }
+        ensures carried { self.new.carried ≡ self.old.carried }
+        ensures seats { self.new.seats ≡ self.old.seats }
+    {
         member.is_own_run();
         claim.spend();
         if self.claims == 0 {
@@ -353,5 +430,43 @@ impl<L: Begins> Register<L> {
         let number = self.noted.len() as u64;
         seat.add(&mut self.book, Slip::make(number, before, seated));
         Some(Slip::make(number, before, slip))
+    }
+
+    /// Adds the newest entries of a node, whose lock is held, the first of them first, and their slips to the seat; whether all are added. One is not, and none
+    /// behind it, if there is no claim, the packet that comes by it is not the one that has its number, or a packet would have a number of 2^64 or more. All
+    /// claims are spent. It takes no memory.
+    pub fn enter_each<S: StableStore>(
+        &mut self,
+        member: &Member<S, L>,
+        seat: &mut Seat<L>,
+        claims: Claims<L>,
+        copies: Vec<EntryCopies>,
+    ) -> bool
+        requires newest { (before : List Written) × (member.now.own ≡ before ++ copies.items) }
+        requires sound { (entry : Written) → In entry copies.items → IsSound entry }
+        requires room { length copies.items ≤ seat.old.room }
+        ensures slips { EntersFront seat.old.slips copies.items seat.new.slips }
+        ensures entries { EntersThose self.old.entries copies.items self.new.entries }
+        ensures all { result ≡ true → self.new.entries ≡ self.old.entries ++ copies.items }
+        ensures each { result ≡ true → EntersEach seat.old.slips copies.items seat.new.slips }
+    {
+        let mut claims = claims;
+        let mut left = VecDeque::from_vec(copies);
+        let mut entered = true;
+        while let Some(one) = left.pop_front() {
+            let Some(claim) = claims.take() else {
+                entered = false;
+                break;
+            };
+            match self.enter_own(member, seat, claim, one) {
+                Some(slip) => drop(slip),
+                None => {
+                    entered = false;
+                    break;
+                }
+            }
+        }
+        self.give_back_all(claims);
+        entered
     }
 }

@@ -55,11 +55,20 @@ impl<L: Ledger> Seat<L> {
         self.slips.reserve(1)
     }
 
+    /// Makes room for so many more slips. An `Err` is want of memory.
+    pub fn make_room_for(&mut self, more: usize) -> Result<(), AllocError>
+        ensures room { OnOk result (more ≤ self.new.room) }
+        ensures slips { self.new.slips ≡ self.old.slips }
+    {
+        self.slips.reserve(more)
+    }
+
     /// Adds the slip of an entry, which counts in the book. It takes no memory.
     pub(crate) fn add(&mut self, book: &mut Book<L>, slip: Slip)
         requires { 1 ≤ self.old.room }
         ensures slips { self.new.slips ≡ self.old.slips ++ slip ∷ [] }
         ensures counted { book.new.total ≡ book.old.total + 1 }
+        ensures room { self.new.room + 1 ≡ self.old.room }
     {
         book.add(&mut self.share, 1);
         self.slips.push_reserved(slip);

@@ -3,10 +3,10 @@ use denote.RattleType.{RattleType}
 use denote.Param.Send.{IsSend, IsSync, sendable, view_send, view_sync}
 use denote.Param.SendFields.{as_row_send, as_row_sync, declared_send, declared_sync}
 use Rattle.std.proofs.Crossing.{crosses, Vec-send, Vec-sync}
-use Rattle.std.specs.contracts.option.Option as Option
 use Rattle.std.specs.declared.sync.ledger.Ledger as Ledger
 use Rattle.stable_store.specs.declared.store.StableStore as Store
 use Rattle.synod_acceptor.proofs.packet.Packet.TheSendSync as packet
+use Rattle.node_core.proofs.Crossing.{group_send, group_sync, kept_send, kept_sync, option_send, option_sync}
 use Rattle.node_core.proofs.StoppedSendSync as stopped
 use Rattle.node_core.specs.contracts.node.Node as Node
 use Rattle.node_core.specs.contracts.node.Node.TheInside as NodeFields
@@ -19,13 +19,6 @@ use Rattle.journal_parts.proofs.entry.Entry.TheSendSync as entry
 use Rattle.journal_parts.proofs.register.Register.TheSendSync as register
 use Rattle.node_threads.specs.contracts.cluster.Cluster as Cluster
 use Rattle.node_threads.specs.contracts.cluster.Rooms as Rooms
-use Rattle.node_threads.proofs.CrossingKept.{kept_send, kept_sync}
-
-option_send : (T : RattleType) → IsSend T → IsSend (Option.the_row T)
-option_send T s = search sendable depth 20
-
-option_sync : (T : RattleType) → IsSync T → IsSync (Option.the_row T)
-option_sync T s = search sendable depth 20
 
 -- Each lemma of a struct has a line for each of its fields.
 module _ (S : RattleType) (s : Store.Ghosts S.Denot) where
@@ -39,7 +32,7 @@ module _ (S : RattleType) (s : Store.Ghosts S.Denot) where
           search sendable,
           (
             option_send _ packet.the_send,
-            (option_send _ stopped.the_send, tt),
+            (option_send _ group_send, (option_send _ stopped.the_send, tt)),
           ),
         ),
       ),
@@ -64,7 +57,7 @@ module _ (S : RattleType) (s : Store.Ghosts S.Denot) where
           search sendable,
           (
             option_sync _ packet.the_sync,
-            (option_sync _ stopped.the_sync, tt),
+            (option_sync _ group_sync, (option_sync _ stopped.the_sync, tt)),
           ),
         ),
       ),

@@ -9,6 +9,7 @@ pub use Rattle.journal_parts.specs.declared.refusal.Refusal
 pub use Rattle.journal_parts.specs.Step
 pub use Rattle.node_core.specs.declared.life.Life
 pub mod Actions
+pub mod Carrying
 pub mod Defaults
 pub mod Openings
 pub mod Loadings

@@ -3,6 +3,7 @@
 
 mod action;
 mod attempting;
+mod carrying;
 mod closing;
 mod cluster;
 mod defaults;
@@ -22,7 +23,7 @@ pub use cluster::Cluster;
 pub use defaults::Defaults;
 pub use journal_parts::{
     Begins, Done, Entry, Journal, MOST_SEATS, MayBegin, MessageIds, Packet, Past, Reach, Refusal,
-    Seat, Slip, Unfinished, all_parts_are_one, closed_journals_go_on,
+    Seat, Slip, Step, Unfinished, all_parts_are_one, closed_journals_go_on,
 };
 pub use loading::{begin_nodes, load_nodes};
 pub use node_core::{Life, Loaded, Node, Outputs, Permit};

@@ -30,6 +30,7 @@ pub(crate) fn take<S: StableStore, L: Begins, R: Wait>(
     ensures slips { IfOk result (λ slip. seat.new.slips ≡ seat.old.slips ++ slip ∷ []) }
     ensures own { IfOk result (λ slip. member.new.own ≡ member.old.own ++ slip.entry ∷ []) }
     ensures err { OnErr result (seat.new.slips ≡ seat.old.slips) }
+    ensures setup { member.new.post.node.kept.setup ≡ member.old.post.node.kept.setup }
     ensures works { OnOk result ((member.old.post.astray || member.old.post.node.broken) ≡ false) }
     ensures broken { IsErrOf result Broken → (member.old.post.astray || member.old.post.node.broken) ≡ true }
     ensures absent { IsErrOf result NoSuchPacket → IsSome (number_by step) }
@@ -66,6 +67,7 @@ fn committed<S: StableStore, L: Begins>(
     ensures finished { IfOk result (λ copies. copies.unfinished ≡ None) }
     ensures own { IfOk result (λ copies. member.new.own ≡ member.old.own ++ copies ∷ []) }
     ensures err { OnErr result (member.new.own ≡ member.old.own) }
+    ensures setup { member.new.post.node.kept.setup ≡ member.old.post.node.kept.setup }
     ensures room { OnOk result (1 ≤ seat.new.room) }
     ensures slips { seat.new.slips ≡ seat.old.slips }
     ensures device { IsErrOf result Device → IsSome (number_by step) }
@@ -103,6 +105,7 @@ fn delivered<S: StableStore, L: Begins>(
     ensures finished { IfOk result (λ copies. copies.unfinished ≡ None) }
     ensures own { IfOk result (λ copies. member.new.own ≡ member.old.own ++ copies ∷ []) }
     ensures err { OnErr result (member.new.own ≡ member.old.own) }
+    ensures setup { member.new.post.node.kept.setup ≡ member.old.post.node.kept.setup }
     ensures room { OnOk result (1 ≤ seat.new.room) }
     ensures slips { seat.new.slips ≡ seat.old.slips }
     ensures faults { IfErr result (λ refusal. (refusal ≡ Device) ⊎ (refusal ≡ Memory)
@@ -134,6 +137,7 @@ fn stepped<S: StableStore, L: Begins>(
     ensures finished { IfOk result (λ copies. copies.unfinished ≡ None) }
     ensures own { IfOk result (λ copies. member.new.own ≡ member.old.own ++ copies ∷ []) }
     ensures err { OnErr result (member.new.own ≡ member.old.own) }
+    ensures setup { member.new.post.node.kept.setup ≡ member.old.post.node.kept.setup }
     ensures room { OnOk result (1 ≤ seat.new.room) }
     ensures slips { seat.new.slips ≡ seat.old.slips }
     ensures device { IsErrOf result Device → IsSome (number_by step) }

@@ -1,7 +1,9 @@
-use Rattle.std.proofs.Common.{◌≡◌, ◌<◌, Option, sym, ap, subst, ◌∙◌, arith}
+use Rattle.std.proofs.Common.{◌≡◌, ◌<◌, List, Option, sym, ap, subst, ◌∙◌, arith}
 use Rattle.std.specs.Prelude.{option_map}
 use Rattle.synod_acceptor.specs.Packets.{packet_of}
+use Rattle.synod_acceptor.specs.declared.packet.Packet.{Packet}
 use Rattle.node_core.specs.Keeping.{kept_of}
+use Rattle.node_core.specs.Stops.{IsUnknown}
 use Rattle.journal_laws.specs.Journals.{IsOwnRun, Unfinished, steps_for}
 use Rattle.journal_laws.specs.Taken.{started_anew}
 use Rattle.journal_parts.specs.declared.post.Halted.{Halted}
@@ -38,7 +40,8 @@ returns-clause-ok g c =
           (anew g.S.StableStore.stored c.args.self.now.node c.reopen.new.self c.in-Ok.life
           (record {
             lists = c.lists.ensures.lists;
-            left = c.lists.ensures.left;
+            left = λ left may. subst (λ (packets : List Packet). IsUnknown c.args.self.now.node.kept left c.args.self.now.node.unfinished packets)
+                c.in-Ok.ensures.settled.0 (c.lists.ensures.left left may);
             opens = opens;
             told = c.in-Ok.ensures.told;
             bounds = c.bounds.ensures.incarnation;
