@@ -8,11 +8,11 @@ use desk::Request;
 use esme_site::{Steps, Taken};
 use node_workers::{Action, Begins, Refusal, Seat};
 use pdu_codec::SystemId;
-use stable_store::StableStore;
+use stable_store::GroupStore;
 use std::rt::Clock;
 use std::sync::Wait;
 
-impl<S: StableStore, L: Begins, R: Wait + Eprint + Clock> Steps<Shift<'_, S, L, R>> for Seat<L> {
+impl<S: GroupStore, L: Begins, R: Wait + Eprint + Clock> Steps<Shift<'_, S, L, R>> for Seat<L> {
     type Fault = Refusal;
 
     ghost took = { λ before shift account request taken after. HandsIn before.slips shift.station.now.node account request taken after.slips };

@@ -6,7 +6,7 @@ use crate::starting::start_workers;
 use crate::trouble::Trouble;
 use node_workers::{Begins, Seat};
 use serve_sessions::{Arrival, Connection, Next, Notice, Reason};
-use stable_store::StableStore;
+use stable_store::GroupStore;
 use std::rt::Clock;
 use std::sync::Wait;
 use std::thread::{Scope, Threads};
@@ -15,7 +15,7 @@ use std::thread::{Scope, Threads};
 pub(crate) fn attend<
     's,
     E,
-    S: StableStore + Send + Sync,
+    S: GroupStore + Send + Sync,
     L: Begins + Send + Sync,
     R: Threads + Wait + Eprint + Clock + Sync,
 >(shift: &Shift<'s, S, L, R>, scope: &'s Scope<'s, E>, arrival: &Arrival) {
@@ -36,7 +36,7 @@ pub(crate) fn attend<
 fn attend_on<
     's,
     E,
-    S: StableStore + Send + Sync,
+    S: GroupStore + Send + Sync,
     L: Begins + Send + Sync,
     R: Threads + Wait + Eprint + Clock + Sync,
 >(
@@ -69,7 +69,7 @@ fn attend_on<
 }
 
 /// Serves a PDU: whether it bound the session so that it may receive. An `Err` is why the session ends, if it does.
-fn serve_frame<S: StableStore, L: Begins, R: Wait + Eprint + Clock>(
+fn serve_frame<S: GroupStore, L: Begins, R: Wait + Eprint + Clock>(
     shift: &Shift<'_, S, L, R>,
     connection: &Connection,
     number: u8,
@@ -92,7 +92,7 @@ fn serve_frame<S: StableStore, L: Begins, R: Wait + Eprint + Clock>(
 }
 
 /// Whether the session of a number may receive.
-fn may_receive<S: StableStore, L: Begins, R: Wait + Eprint + Clock>(
+fn may_receive<S: GroupStore, L: Begins, R: Wait + Eprint + Clock>(
     shift: &Shift<'_, S, L, R>,
     number: u8,
 ) -> bool {
@@ -104,7 +104,7 @@ fn may_receive<S: StableStore, L: Begins, R: Wait + Eprint + Clock>(
 }
 
 /// Tells the operator what came of a PDU; why the session ends, if it does.
-fn told<S: StableStore, L: Begins, R: Wait + Eprint + Clock>(
+fn told<S: GroupStore, L: Begins, R: Wait + Eprint + Clock>(
     shift: &Shift<'_, S, L, R>,
     connection: &Connection,
     number: u8,
@@ -125,7 +125,7 @@ fn told<S: StableStore, L: Begins, R: Wait + Eprint + Clock>(
 }
 
 /// Why a session ends on which nothing more comes, for this reason: as the server ends, who read only saw an end.
-fn ended<S: StableStore, L: Begins, R: Wait + Eprint + Clock>(
+fn ended<S: GroupStore, L: Begins, R: Wait + Eprint + Clock>(
     shift: &Shift<'_, S, L, R>,
     seat: &mut Seat<L>,
     number: u8,
@@ -142,7 +142,7 @@ fn ended<S: StableStore, L: Begins, R: Wait + Eprint + Clock>(
 }
 
 /// The session is over.
-pub(crate) fn end<S: StableStore, L: Begins, R: Wait + Eprint + Clock>(
+pub(crate) fn end<S: GroupStore, L: Begins, R: Wait + Eprint + Clock>(
     shift: &Shift<'_, S, L, R>,
     number: u8,
     reason: Reason,
@@ -157,7 +157,7 @@ pub(crate) fn end<S: StableStore, L: Begins, R: Wait + Eprint + Clock>(
 }
 
 /// A session leaves: what waits for its account goes to others of it that have places.
-fn leave<S: StableStore, L: Begins, R: Wait + Eprint + Clock>(
+fn leave<S: GroupStore, L: Begins, R: Wait + Eprint + Clock>(
     shift: &Shift<'_, S, L, R>,
     number: u8,
 ) -> Result<(), Trouble> {

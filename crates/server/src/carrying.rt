@@ -3,18 +3,17 @@
 use crate::shift::{Shift, ring};
 use crate::trouble::Trouble;
 use mc_types::{Moment, MsgId};
-use node_workers::{Action, Begins, Packet, Seat, Slip};
+use node_workers::{Begins, Packet, Seat, Slip, Step};
 use pdu_codec::SystemId;
 use serve_nodes::{Ending, Wake};
-use stable_store::StableStore;
+use stable_store::GroupStore;
 use std::rt::Clock;
 use std::sync::Wait;
 use std::sync::atomic::Ordering;
 use waiting_requests::Answer;
 
-/// Hands in the packets that are told of, in ascending number, until the life of the node ends. One in whose step the node's store failed is handed in again
-/// in the next life.
-pub(crate) fn carry_on<S: StableStore, L: Begins, R: Wait + Eprint + Clock>(
+/// Hands in the packets that are told of, until the life of the node ends. One in whose step the node's store failed is handed in again in the next life.
+pub(crate) fn carry_on<S: GroupStore, L: Begins, R: Wait + Eprint + Clock>(
     shift: &Shift<'_, S, L, R>,
 ) {
     let Some(mut seat) = shift.seat() else {
@@ -32,7 +31,7 @@ pub(crate) fn carry_on<S: StableStore, L: Begins, R: Wait + Eprint + Clock>(
 }
 
 /// Hands in all packets up to this number that the node was not handed, as far as none is refused.
-fn hand_in<S: StableStore, L: Begins, R: Wait + Eprint + Clock>(
+fn hand_in<S: GroupStore, L: Begins, R: Wait + Eprint + Clock>(
     shift: &Shift<'_, S, L, R>,
     seat: &mut Seat<L>,
     newest: u64,
@@ -42,39 +41,64 @@ fn hand_in<S: StableStore, L: Begins, R: Wait + Eprint + Clock>(
     }
 }
 
-/// Hands in all packets up to this number that the node was not handed.
-fn carry_to<S: StableStore, L: Begins, R: Wait + Eprint + Clock>(
+/// Hands in all packets up to this number that the node was not handed, and those that were sent meanwhile: many at once, so that what waits for a save waits
+/// for one.
+fn carry_to<S: GroupStore, L: Begins, R: Wait + Eprint + Clock>(
     shift: &Shift<'_, S, L, R>,
     seat: &mut Seat<L>,
     newest: u64,
 ) -> Result<(), Trouble> {
-    let next = shift.station.next.load(Ordering::SeqCst);
-    for number in next..=newest {
-        if shift.is_over() {
+    for _ in shift.rt.forever() {
+        let next = shift.station.next.load(Ordering::SeqCst);
+        let last = newest.max(shift.shared.house.newest());
+        if next > last || shift.is_over() || !carry(shift, seat, next, last)? {
             break;
         }
-        carry(shift, seat, number)?;
-        shift
-            .station
-            .next
-            .store(number.saturating_add(1), Ordering::SeqCst);
-        shift.shared.house.pass(shift.station, number);
     }
     Ok(())
 }
 
-/// Hands in a packet: what that gives out goes out.
-fn carry<S: StableStore, L: Begins, R: Wait + Eprint + Clock>(
+/// Hands in packets from the first of these numbers on up to the last: what they give out goes out; whether any came.
+fn carry<S: GroupStore, L: Begins, R: Wait + Eprint + Clock>(
     shift: &Shift<'_, S, L, R>,
     seat: &mut Seat<L>,
-    number: u64,
+    first: u64,
+    last: u64,
+) -> Result<bool, Trouble> {
+    let before = seat.slips().len();
+    let came = shift
+        .shared
+        .cluster
+        .carry(shift.rt, seat, shift.node(), first, last);
+    tell_each(shift, seat, before)?;
+    let behind = first.saturating_add(came?);
+    shift.station.next.store(behind, Ordering::SeqCst);
+    for number in first..behind {
+        shift.shared.house.pass(shift.station, number);
+    }
+    Ok(behind > first)
+}
+
+/// What the steps gave out whose slips stand behind so many others goes out.
+fn tell_each<S: GroupStore, L: Begins, R: Wait + Eprint + Clock>(
+    shift: &Shift<'_, S, L, R>,
+    seat: &Seat<L>,
+    before: usize,
 ) -> Result<(), Trouble> {
-    let node = shift.node();
-    let packet = Action::Deliver { number, node };
-    let slip = shift.shared.cluster.act(shift.rt, seat, packet)?;
-    ring(shift.rt, &shift.shared.house, &slip);
+    for slip in seat.slips().iter().skip(before) {
+        tell(shift, slip)?;
+    }
+    Ok(())
+}
+
+/// What the step of a packet gave out goes out.
+fn tell<S: GroupStore, L: Begins, R: Wait + Eprint + Clock>(
+    shift: &Shift<'_, S, L, R>,
+    slip: &Slip,
+) -> Result<(), Trouble> {
+    ring(shift.rt, &shift.shared.house, slip);
     let outputs = slip.outputs();
-    let chosen = chosen_by(&slip);
+    let chosen = chosen_by(slip);
     if outputs.replies.is_empty() && outputs.receipts.is_empty() && chosen.is_none() {
         return Ok(());
     }
@@ -84,16 +108,27 @@ fn carry<S: StableStore, L: Begins, R: Wait + Eprint + Clock>(
         site.backlog.note(&vote.chain);
     }
     site.tell(shift.rt, outputs)?;
-    let due = due_by(&slip, site.clock());
+    let due = due_by(slip, site.clock());
     let heard = match chosen {
         Some(id) => shift.hear_of(site, id),
         None => Ok(()),
     };
     drop(guard);
     if let Some(target) = due {
-        shift.shared.house.call(shift.rt, node, target, number);
+        shift
+            .shared
+            .house
+            .call(shift.rt, shift.node(), target, number_of(slip));
     }
     heard
+}
+
+/// The number of the packet that came by a step, 0 if none did.
+fn number_of(slip: &Slip) -> u64 {
+    match slip.step() {
+        Step::Deliver { number, .. } => *number,
+        _ => 0,
+    }
 }
 
 /// The message of which an attempt may have been chosen by a step: that of the vote that came.

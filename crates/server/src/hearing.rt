@@ -16,7 +16,7 @@ use pdu_tables::Status;
 use serve_nodes::{Frames, Site};
 use serve_sessions::{Name, Notice, is_bind};
 use sessions::{Delivery, Outgoing, Requested, Response};
-use stable_store::StableStore;
+use stable_store::GroupStore;
 use std::alloc::AllocError;
 use std::rt::Clock;
 use std::sync::Wait;
@@ -86,7 +86,7 @@ struct FrameOn<'a> {
 }
 
 /// The octets of a frame came on a session: they are served under the lock of its node's site, so that the reply to a request finds its session.
-pub(crate) fn heed<S: StableStore, L: Begins, R: Wait + Eprint + Clock>(
+pub(crate) fn heed<S: GroupStore, L: Begins, R: Wait + Eprint + Clock>(
     shift: &Shift<'_, S, L, R>,
     seat: &mut Seat<L>,
     number: u8,
@@ -109,7 +109,7 @@ pub(crate) fn heed<S: StableStore, L: Begins, R: Wait + Eprint + Clock>(
 }
 
 /// Octets came on a session whose length is not that of a PDU: it is gone.
-pub(crate) fn heed_wrong_length<S: StableStore, L: Begins, R: Wait + Eprint + Clock>(
+pub(crate) fn heed_wrong_length<S: GroupStore, L: Begins, R: Wait + Eprint + Clock>(
     shift: &Shift<'_, S, L, R>,
     seat: &mut Seat<L>,
     number: u8,
@@ -125,7 +125,7 @@ pub(crate) fn heed_wrong_length<S: StableStore, L: Begins, R: Wait + Eprint + Cl
 }
 
 /// The octets of a frame came on a session: what comes of them is put, and then the receipts that wait for its account. An `Err` is want of memory.
-fn serve<S: StableStore, L: Begins, R: Wait + Eprint + Clock>(
+fn serve<S: GroupStore, L: Begins, R: Wait + Eprint + Clock>(
     shift: &Shift<'_, S, L, R>,
     site: &mut Site,
     seat: &mut Seat<L>,
@@ -150,7 +150,7 @@ fn serve<S: StableStore, L: Begins, R: Wait + Eprint + Clock>(
 
 /// What was heard on a session goes to its node, and what goes out of it is put. If no step is taken of a request, that is refused with 0x08. An `Err` is want of
 /// memory.
-fn put_heard<S: StableStore, L: Begins, R: Wait + Eprint + Clock>(
+fn put_heard<S: GroupStore, L: Begins, R: Wait + Eprint + Clock>(
     shift: &Shift<'_, S, L, R>,
     site: &mut Site,
     seat: &mut Seat<L>,
@@ -184,7 +184,7 @@ fn put_heard<S: StableStore, L: Begins, R: Wait + Eprint + Clock>(
 
 /// What came of a PDU on the session of a number is counted, and its answer to a deliver_sm is handed to the delivery that waits for it; what comes of it in the
 /// end.
-fn conclude<S: StableStore, L: Begins, R: Wait + Eprint + Clock>(
+fn conclude<S: GroupStore, L: Begins, R: Wait + Eprint + Clock>(
     shift: &Shift<'_, S, L, R>,
     site: &mut Site,
     number: u8,

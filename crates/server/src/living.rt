@@ -8,7 +8,7 @@ use mc_types::MsgId;
 use node_workers::{Begins, Life, Refusal};
 use serve_nodes::{Course, Ending, House, Need, Station, Wake};
 use serve_sessions::Reason;
-use stable_store::StableStore;
+use stable_store::GroupStore;
 use std::rt::Clock;
 use std::sync::Wait;
 use std::thread;
@@ -23,7 +23,7 @@ const LOOK_GAP: u64 = 1_000;
 
 /// Runs a node in one life after another, until the part of the journal is over or the server ends.
 pub(crate) fn live_on<
-    S: StableStore + Send + Sync,
+    S: GroupStore + Send + Sync,
     L: Begins + Send + Sync,
     R: Threads + Wait + Eprint + Clock + Sync,
 >(rt: &R, shared: &Shared<S, L>, station: &Station) {
@@ -38,7 +38,7 @@ pub(crate) fn live_on<
 }
 
 /// The life of a node behind this one, if it has another in this part of the journal. If the part is over, the life goes on in the next one.
-fn after<S: StableStore, L: Begins, R: Wait + Eprint + Clock>(
+fn after<S: GroupStore, L: Begins, R: Wait + Eprint + Clock>(
     rt: &R,
     shared: &Shared<S, L>,
     station: &Station,
@@ -59,7 +59,7 @@ fn keep<R: Wait>(rt: &R, station: &Station, life: Life) {
 
 /// Runs a node in one of its lives, until it is to start anew, the part of the journal is over, or the server ends.
 fn live<
-    S: StableStore + Send + Sync,
+    S: GroupStore + Send + Sync,
     L: Begins + Send + Sync,
     R: Threads + Wait + Eprint + Clock + Sync,
 >(rt: &R, shared: &Shared<S, L>, station: &Station, life: &Life) {
@@ -85,7 +85,7 @@ fn live<
 fn attend_all<
     's,
     E,
-    S: StableStore + Send + Sync,
+    S: GroupStore + Send + Sync,
     L: Begins + Send + Sync,
     R: Threads + Wait + Eprint + Clock + Sync,
 >(shift: &Shift<'s, S, L, R>, scope: &'s Scope<'s, E>) {
@@ -101,7 +101,7 @@ fn attend_all<
 }
 
 /// All that may be granted as the life begins is looked at: it is delivered once workers are there.
-fn look_first<S: StableStore, L: Begins, R: Wait + Eprint + Clock>(shift: &Shift<'_, S, L, R>) {
+fn look_first<S: GroupStore, L: Begins, R: Wait + Eprint + Clock>(shift: &Shift<'_, S, L, R>) {
     let mut guard = shift.station.site.lock(shift.rt);
     let site = &mut *guard;
     site.feed_from(None);
@@ -114,7 +114,7 @@ fn look_first<S: StableStore, L: Begins, R: Wait + Eprint + Clock>(shift: &Shift
 fn start_attendants<
     's,
     E,
-    S: StableStore + Send + Sync,
+    S: GroupStore + Send + Sync,
     L: Begins + Send + Sync,
     R: Threads + Wait + Eprint + Clock + Sync,
 >(shift: &Shift<'s, S, L, R>, scope: &'s Scope<'s, E>) {
@@ -130,7 +130,7 @@ fn start_attendants<
 
 /// The life is over. If the server ends, sessions read their end, what waits on them goes out for a second, and then they are cut. Else who serves them rests,
 /// and what is delivered gets no answer any more.
-fn end_life<S: StableStore, L: Begins, R: Wait + Eprint + Clock>(shift: &Shift<'_, S, L, R>) {
+fn end_life<S: GroupStore, L: Begins, R: Wait + Eprint + Clock>(shift: &Shift<'_, S, L, R>) {
     if shift.shared.house.is_over(shift.rt) {
         end_sessions(shift);
     } else {
@@ -142,7 +142,7 @@ fn end_life<S: StableStore, L: Begins, R: Wait + Eprint + Clock>(shift: &Shift<'
     shift.station.wake(shift.rt, Wake::End);
 }
 
-fn end_sessions<S: StableStore, L: Begins, R: Wait + Eprint + Clock>(shift: &Shift<'_, S, L, R>) {
+fn end_sessions<S: GroupStore, L: Begins, R: Wait + Eprint + Clock>(shift: &Shift<'_, S, L, R>) {
     let station = shift.station;
     station.site.lock(shift.rt).stop_reading();
     let _ = station.news.wait_until(
@@ -170,7 +170,7 @@ enum Started {
 
 /// Starts a node anew: its next life. If there is no memory for that, it is tried again a second later, and nobody is served meanwhile. None if it is refused,
 /// or if the server or the part of the journal ends before.
-fn next_life<S: StableStore, L: Begins, R: Wait + Eprint + Clock>(
+fn next_life<S: GroupStore, L: Begins, R: Wait + Eprint + Clock>(
     rt: &R,
     shared: &Shared<S, L>,
     station: &Station,
@@ -217,7 +217,7 @@ fn waits<R: Wait + Clock>(rt: &R, house: &House, station: &Station) -> bool {
 }
 
 /// Starts a node anew.
-fn start_anew<S: StableStore, L: Begins, R: Wait + Eprint + Clock>(
+fn start_anew<S: GroupStore, L: Begins, R: Wait + Eprint + Clock>(
     rt: &R,
     shared: &Shared<S, L>,
     station: &Station,
@@ -245,7 +245,7 @@ fn start_anew<S: StableStore, L: Begins, R: Wait + Eprint + Clock>(
 }
 
 /// A node started anew in this life: its requests that waited are answered, since it knows nothing of them now.
-fn begin_anew<S: StableStore, L: Begins, R: Wait + Eprint + Clock>(
+fn begin_anew<S: GroupStore, L: Begins, R: Wait + Eprint + Clock>(
     rt: &R,
     shared: &Shared<S, L>,
     station: &Station,

@@ -12,7 +12,7 @@ use crate::starting::start_nodes;
 use node_workers::{Begins, Cluster, Journal, MOST_SEATS, Past, Seat, closed_journals_go_on};
 use serve_nodes::{Ending, House};
 use serve_sessions::{Mark, milliseconds, milliseconds_since};
-use stable_store::StableStore;
+use stable_store::GroupStore;
 use std::marker::Brand;
 use std::rt::Clock;
 use std::sync::ledger::Blank;
@@ -22,14 +22,14 @@ use std::thread::Threads;
 
 /// With what another part begins: a ledger of slips, and the journal of the last part.
 #[derive(Drop)]
-struct Next<S: StableStore> {
+struct Next<S: GroupStore> {
     blank: Blank,
     journal: Journal<S>,
 }
 
 /// Serves in one part of the journal after another, until the server ends: how it did, and the journal of the last part.
 pub(crate) fn serve_parts<
-    S: StableStore + Send + Sync + Drop,
+    S: GroupStore + Send + Sync + Drop,
     L: Begins + Send + Sync,
     R: Threads + Wait + Eprint + Clock + Sync,
 >(rt: &R, house: &Arc<House>, cluster: Cluster<S, L>) -> Served<S>
@@ -54,7 +54,7 @@ pub(crate) fn serve_parts<
 }
 
 /// How the server ended, with this journal of its last part.
-fn served<S: StableStore, R: Wait>(rt: &R, house: &House, journal: Option<Journal<S>>) -> Served<S>
+fn served<S: GroupStore, R: Wait>(rt: &R, house: &House, journal: Option<Journal<S>>) -> Served<S>
     ensures { result.journal ≡ journal }
 {
     Served {
@@ -66,7 +66,7 @@ fn served<S: StableStore, R: Wait>(rt: &R, house: &House, journal: Option<Journa
 }
 
 /// Whether the part of this journal is the last: the server ends, or a node is astray, whose start anew was refused. The part is counted.
-fn is_last<S: StableStore, R: Wait>(rt: &R, house: &House, journal: &Journal<S>) -> bool
+fn is_last<S: GroupStore, R: Wait>(rt: &R, house: &House, journal: &Journal<S>) -> bool
     ensures { result ≡ false → AreSound journal.now.posts }
 {
     house.counters.close_part(journal.len() as u64);
@@ -78,7 +78,7 @@ fn is_last<S: StableStore, R: Wait>(rt: &R, house: &House, journal: &Journal<S>)
 
 /// The journal of a part that goes on where another was closed. None if it can't be closed, or there is no memory for it.
 fn next_part<
-    S: StableStore + Send + Sync + Drop,
+    S: GroupStore + Send + Sync + Drop,
     L: Begins + Send + Sync,
     R: Threads + Wait + Eprint + Clock + Sync,
 >(rt: &R, house: &Arc<House>, next: Next<S>) -> Option<Journal<S>>
@@ -104,7 +104,7 @@ fn next_part<
 
 /// The journal of a part, behind all that its threads did, while one of them lets the part before go. None if it can't be closed.
 fn part<
-    S: StableStore + Send + Sync + Drop,
+    S: GroupStore + Send + Sync + Drop,
     L: Begins + Send + Sync,
     R: Threads + Wait + Eprint + Clock + Sync,
 >(rt: &R, house: &Arc<House>, cluster: Cluster<S, L>, past: Option<Past>) -> Option<Journal<S>>
@@ -127,7 +127,7 @@ fn part<
 }
 
 /// The journal of a cluster whose threads have ended, with all its seats. None if it can't be closed.
-fn closed<S: StableStore + Drop, L: Begins>(
+fn closed<S: GroupStore + Drop, L: Begins>(
     cluster: Cluster<S, L>,
     seats: Vec<Seat<L>>,
 ) -> Option<Journal<S>>
@@ -145,7 +145,7 @@ fn closed<S: StableStore + Drop, L: Begins>(
 /// Runs the nodes until the part is over, or the server ends. A thread lets go of the part before, which takes a while for each of its entries; if it can't be
 /// started, it is let go here.
 fn run<
-    S: StableStore + Send + Sync,
+    S: GroupStore + Send + Sync,
     L: Begins + Send + Sync,
     R: Threads + Wait + Eprint + Clock + Sync,
 >(rt: &R, shared: &Shared<S, L>, past: Option<Past>) {
@@ -166,7 +166,7 @@ const WANT_GAP: u64 = 1_000;
 const COUNTS_GAP: u64 = 60_000;
 
 /// Waits for the end of the part, or of the server, and tells counts each minute, and want of memory each second.
-fn watch<S: StableStore, L: Begins, R: Wait + Eprint + Clock>(rt: &R, shared: &Shared<S, L>) {
+fn watch<S: GroupStore, L: Begins, R: Wait + Eprint + Clock>(rt: &R, shared: &Shared<S, L>) {
     let house = &shared.house;
     let mut told = Mark::now(rt);
     for _ in rt.forever() {

@@ -1,7 +1,7 @@
 //! The seats of the server's threads.
 
 use node_workers::{Begins, Cluster, Seat};
-use stable_store::StableStore;
+use stable_store::GroupStore;
 use std::alloc::Global;
 use std::sync::{Mutex, Wait};
 
@@ -30,7 +30,7 @@ impl<L: Begins> SeatPool<L> {
     }
 
     /// A seat of the cluster. There is room for it as it comes back. None if there is no memory, or no seat is left.
-    pub(crate) fn take<S: StableStore, R: Wait>(
+    pub(crate) fn take<S: GroupStore, R: Wait>(
         &self,
         rt: &R,
         cluster: &Cluster<S, L>,
@@ -62,7 +62,7 @@ impl<L: Begins> SeatPool<L> {
 }
 
 /// Another seat of the cluster, with room for all as they come back.
-fn new_seat<S: StableStore, L: Begins, R: Wait>(
+fn new_seat<S: GroupStore, L: Begins, R: Wait>(
     rt: &R,
     cluster: &Cluster<S, L>,
     seats: &mut Seats<L>,

@@ -9,7 +9,7 @@ use crate::parts::serve_parts;
 use crate::starting::{start_listeners, start_log, start_status};
 use node_workers::{Begins, Cluster, Journal, Node, all_parts_are_one};
 use serve_nodes::{Doors, Ending, House, Settings, house_of};
-use stable_store::StableStore;
+use stable_store::GroupStore;
 use std::alloc::{AllocError, Global};
 use std::rt::Clock;
 use std::sync::ledger::Blank;
@@ -19,14 +19,14 @@ use std::thread::Threads;
 
 /// What its nodes begin with: a ledger of slips, and the nodes, node 1 first.
 #[derive(Drop)]
-pub struct Beginning<S: StableStore> {
+pub struct Beginning<S: GroupStore> {
     pub blank: Blank,
     pub nodes: Vec<Node<S>>,
 }
 
 /// How a server ended: why, how many parts its journal had and how many entries they had together, and the journal of its last part, if that could be closed.
 #[derive(Drop)]
-pub struct Served<S: StableStore> {
+pub struct Served<S: GroupStore> {
     pub ending: Ending,
     pub parts: u64,
     pub entries: u64,
@@ -34,13 +34,13 @@ pub struct Served<S: StableStore> {
 }
 
 /// Serves ESMEs over nodes in threads, until it is asked to end, as many sessions have ended as were to, or a node can't be started anew. Each node listens,
-/// reads and writes its sessions, ticks each second, hands in packets in ascending number, and delivers by as many workers a session as its window has places.
+/// reads and writes its sessions, ticks each second, hands in packets, and delivers by as many workers a session as its window has places.
 ///
 /// Before the journal is full it is closed, and goes on with another part over the nodes as they are; sessions stay, and requests go on waiting. With
 /// `ends_full` of the configuration the server ends in its place. A node that has few message_ids left, or whose store failed, starts anew, and its sessions
 /// stay. An `Err` is want of memory before it begins.
 pub fn serve<
-    S: StableStore + Send + Sync + Drop,
+    S: GroupStore + Send + Sync + Drop,
     L: Begins + Send + Sync,
     R: Threads + Wait + Eprint + Clock + Sync,
 >(
@@ -66,7 +66,7 @@ pub fn serve<
 
 /// Serves over a cluster, with threads that listen, read and write until the server ends.
 fn serve_over<
-    S: StableStore + Send + Sync + Drop,
+    S: GroupStore + Send + Sync + Drop,
     L: Begins + Send + Sync,
     R: Threads + Wait + Eprint + Clock + Sync,
 >(rt: &R, house: &Arc<House>, cluster: Cluster<S, L>) -> Served<S>

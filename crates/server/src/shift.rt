@@ -8,7 +8,7 @@ use mc_types::{MsgId, NodeNo};
 use node_workers::{Attempt, Begins, Life, Seat, Slip};
 use serve_nodes::{Ending, House, Need, Site, Station};
 use serve_sessions::{Notice, Whom};
-use stable_store::StableStore;
+use stable_store::GroupStore;
 use std::alloc::AllocError;
 use std::rt::Clock;
 use std::sync::Wait;
@@ -21,14 +21,14 @@ pub(crate) const ALL_LOOKS: usize = usize::MAX;
 
 /// What the threads of a node share in one of its lives.
 #[derive(Drop)]
-pub(crate) struct Shift<'a, S: StableStore, L: Begins, R> {
+pub(crate) struct Shift<'a, S: GroupStore, L: Begins, R> {
     pub(crate) rt: &'a R,
     pub(crate) shared: &'a Shared<S, L>,
     pub(crate) station: &'a Station,
     pub(crate) life: &'a Life,
 }
 
-impl<S: StableStore, L: Begins, R: Wait + Eprint + Clock> Shift<'_, S, L, R> {
+impl<S: GroupStore, L: Begins, R: Wait + Eprint + Clock> Shift<'_, S, L, R> {
     /// The node.
     pub(crate) fn node(&self) -> NodeNo
         ensures { result ≡ self.now.station.now.node }

@@ -12,7 +12,7 @@ use node_workers::Begins;
 use serve_nodes::{Ending, House, Station};
 use serve_sessions::{Arrival, Connection, Reason, WORKERS, read_all};
 use serve_status::tell_on;
-use stable_store::StableStore;
+use stable_store::GroupStore;
 use std::alloc::{AllocError, Global};
 use std::rt::Clock;
 use std::sync::{Arc, Wait};
@@ -104,7 +104,7 @@ pub(crate) fn start_writer<'o, O, R: Threads + Wait + Clock + Sync>(
 pub(crate) fn start_nodes<
     's,
     E,
-    S: StableStore + Send + Sync,
+    S: GroupStore + Send + Sync,
     L: Begins + Send + Sync,
     R: Threads + Wait + Eprint + Clock + Sync,
 >(rt: &'s R, scope: &'s Scope<'s, E>, shared: &'s Shared<S, L>) {
@@ -117,7 +117,7 @@ pub(crate) fn start_nodes<
 fn start_node<
     's,
     E,
-    S: StableStore + Send + Sync,
+    S: GroupStore + Send + Sync,
     L: Begins + Send + Sync,
     R: Threads + Wait + Eprint + Clock + Sync,
 >(rt: &'s R, scope: &'s Scope<'s, E>, shared: &'s Shared<S, L>, station: &'s Station) {
@@ -131,7 +131,7 @@ fn start_node<
 pub(crate) fn start_ticks<
     's,
     E,
-    S: StableStore + Send + Sync,
+    S: GroupStore + Send + Sync,
     L: Begins + Send + Sync,
     R: Threads + Wait + Eprint + Clock + Sync,
 >(shift: &Shift<'s, S, L, R>, scope: &'s Scope<'s, E>) {
@@ -152,7 +152,7 @@ pub(crate) fn start_ticks<
 pub(crate) fn start_packets<
     's,
     E,
-    S: StableStore + Send + Sync,
+    S: GroupStore + Send + Sync,
     L: Begins + Send + Sync,
     R: Threads + Wait + Eprint + Clock + Sync,
 >(shift: &Shift<'s, S, L, R>, scope: &'s Scope<'s, E>) {
@@ -173,7 +173,7 @@ pub(crate) fn start_packets<
 pub(crate) fn start_attendant<
     's,
     E,
-    S: StableStore + Send + Sync,
+    S: GroupStore + Send + Sync,
     L: Begins + Send + Sync,
     R: Threads + Wait + Eprint + Clock + Sync,
 >(shift: &Shift<'s, S, L, R>, scope: &'s Scope<'s, E>, arrival: Arrival) {
@@ -201,7 +201,7 @@ pub(crate) fn start_attendant<
 pub(crate) fn start_workers<
     's,
     E,
-    S: StableStore + Send + Sync,
+    S: GroupStore + Send + Sync,
     L: Begins + Send + Sync,
     R: Threads + Wait + Eprint + Clock + Sync,
 >(
@@ -219,7 +219,7 @@ pub(crate) fn start_workers<
 fn start_worker<
     's,
     E,
-    S: StableStore + Send + Sync,
+    S: GroupStore + Send + Sync,
     L: Begins + Send + Sync,
     R: Threads + Wait + Eprint + Clock + Sync,
 >(

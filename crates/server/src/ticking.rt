@@ -5,7 +5,7 @@ use crate::trouble::Trouble;
 use node_workers::{Action, Begins, Seat};
 use serve_nodes::{Beat, Ending, Need, Site};
 use serve_sessions::Mark;
-use stable_store::StableStore;
+use stable_store::GroupStore;
 use std::rt::Clock;
 use std::sync::Wait;
 use std::sync::atomic::Ordering;
@@ -28,7 +28,7 @@ const SILENCE: u64 = 500;
 
 /// Sees to the first tick of a life: before it the clock of a node stands at its least moment, so nobody is served before. As the server begins, it comes once
 /// those of the nodes below are through, and its own rounds are waited for, also in another part of the journal; a node that starts anew is served meanwhile.
-pub(crate) fn tick_first<S: StableStore, L: Begins, R: Wait + Eprint + Clock>(
+pub(crate) fn tick_first<S: GroupStore, L: Begins, R: Wait + Eprint + Clock>(
     shift: &Shift<'_, S, L, R>,
 ) {
     let station = shift.station;
@@ -47,7 +47,7 @@ pub(crate) fn tick_first<S: StableStore, L: Begins, R: Wait + Eprint + Clock>(
 }
 
 /// The node may be served, unless its first tick is still to come, or its rounds are waited for in the next part of the journal.
-fn begin<S: StableStore, L: Begins, R: Wait + Eprint + Clock>(shift: &Shift<'_, S, L, R>) {
+fn begin<S: GroupStore, L: Begins, R: Wait + Eprint + Clock>(shift: &Shift<'_, S, L, R>) {
     let begins = !shift.is_over() && shift.station.course.lock(shift.rt).serve();
     if begins {
         shift.shared.house.tell_nodes();
@@ -56,7 +56,7 @@ fn begin<S: StableStore, L: Begins, R: Wait + Eprint + Clock>(shift: &Shift<'_, 
 }
 
 /// Hands in the first tick of a life, once those of the nodes below are through.
-fn tick_once<S: StableStore, L: Begins, R: Wait + Eprint + Clock>(shift: &Shift<'_, S, L, R>) {
+fn tick_once<S: GroupStore, L: Begins, R: Wait + Eprint + Clock>(shift: &Shift<'_, S, L, R>) {
     let Some(mut seat) = shift.seat() else {
         shift.shared.house.end_by(shift.rt, Ending::Threads);
         return;
@@ -77,7 +77,7 @@ fn tick_once<S: StableStore, L: Begins, R: Wait + Eprint + Clock>(shift: &Shift<
 
 /// Hands in a tick each second until the life of the node is over, and one at once if something is due; but each one ends all rounds, so the next one waits until
 /// those are through that the last one began, also in another part of the journal, unless no packet comes any more.
-pub(crate) fn tick_on<S: StableStore, L: Begins, R: Wait + Eprint + Clock>(
+pub(crate) fn tick_on<S: GroupStore, L: Begins, R: Wait + Eprint + Clock>(
     shift: &Shift<'_, S, L, R>,
 ) {
     let Some(mut seat) = shift.seat() else {
@@ -102,7 +102,7 @@ pub(crate) fn tick_on<S: StableStore, L: Begins, R: Wait + Eprint + Clock>(
 }
 
 /// Waits until the node is to tick: at once if something is due, and the last tick is long enough ago, else for a second, or until the life is over.
-fn wait_for_turn<S: StableStore, L: Begins, R: Wait + Eprint + Clock>(
+fn wait_for_turn<S: GroupStore, L: Begins, R: Wait + Eprint + Clock>(
     shift: &Shift<'_, S, L, R>,
     beat: &Beat,
 ) {
@@ -129,7 +129,7 @@ fn wait_for_turn<S: StableStore, L: Begins, R: Wait + Eprint + Clock>(
 
 /// Has a node start anew that has few message_ids left, once nothing waits there and all packets have come, or after thirty seconds: a receipt whose round runs
 /// then may be lost. So that it comes to rest it begins no attempts for two seconds; whether it begins none now.
-fn start_anew_if_low<S: StableStore, L: Begins, R: Wait + Eprint + Clock>(
+fn start_anew_if_low<S: GroupStore, L: Begins, R: Wait + Eprint + Clock>(
     shift: &Shift<'_, S, L, R>,
 ) -> bool {
     if !shift.has_few_serials() || shift.is_over() {
@@ -148,7 +148,7 @@ fn start_anew_if_low<S: StableStore, L: Begins, R: Wait + Eprint + Clock>(
 }
 
 /// Waits until the rounds are through that the last tick began, as long as packets come. If the life is over before, they are waited for in the next part.
-fn wait_for_rounds<S: StableStore, L: Begins, R: Wait + Eprint + Clock>(
+fn wait_for_rounds<S: GroupStore, L: Begins, R: Wait + Eprint + Clock>(
     shift: &Shift<'_, S, L, R>,
 ) {
     let house = &shift.shared.house;
@@ -188,7 +188,7 @@ const TOLD_GAP: u64 = 5_000;
 
 /// The rounds of a node are not through: each five seconds an operator is told how far they are, if it is not served before that. When that was told last, if it
 /// was told so far then.
-fn tell_progress<S: StableStore, L: Begins, R: Wait + Eprint + Clock>(
+fn tell_progress<S: GroupStore, L: Begins, R: Wait + Eprint + Clock>(
     shift: &Shift<'_, S, L, R>,
     told: Mark,
 ) -> Mark {
@@ -210,7 +210,7 @@ fn tell_progress<S: StableStore, L: Begins, R: Wait + Eprint + Clock>(
 
 /// Hands in a tick: what it gives out goes out, what was pushed and waits too long is given up, and what waits for a worker is delivered. A look at all that may
 /// be granted begins with it, or goes on.
-fn tick<S: StableStore, L: Begins, R: Wait + Eprint + Clock>(
+fn tick<S: GroupStore, L: Begins, R: Wait + Eprint + Clock>(
     shift: &Shift<'_, S, L, R>,
     seat: &mut Seat<L>,
     begins_look: bool,
@@ -250,7 +250,7 @@ fn tick<S: StableStore, L: Begins, R: Wait + Eprint + Clock>(
 }
 
 /// What was pushed and waits too long is given up, those are lost who do not bind in time, and what stands at the site is told from now on.
-fn tidy<S: StableStore, L: Begins, R: Wait + Eprint + Clock>(
+fn tidy<S: GroupStore, L: Begins, R: Wait + Eprint + Clock>(
     shift: &Shift<'_, S, L, R>,
     site: &mut Site,
 ) -> Result<(), Trouble> {

@@ -7,13 +7,13 @@ use crate::trouble::Trouble;
 use connection_parts::Job;
 use node_workers::{Begins, Heard, Home, Seat, tried};
 use serve_sessions::{Arrival, Berth, BerthGate, Connection, Reason};
-use stable_store::StableStore;
+use stable_store::GroupStore;
 use std::rt::Clock;
 use std::sync::Wait;
 
 /// Makes the deliveries that are given to this place of a session's connection, until it is shut, or workers rest. If there is no memory for a seat, the
 /// connection is lost: its session would be chosen for deliveries that nobody makes.
-pub(crate) fn work<S: StableStore, L: Begins, R: Wait + Eprint + Clock>(
+pub(crate) fn work<S: GroupStore, L: Begins, R: Wait + Eprint + Clock>(
     shift: &Shift<'_, S, L, R>,
     arrival: &Arrival,
     place: usize,
@@ -43,7 +43,7 @@ pub(crate) fn work<S: StableStore, L: Begins, R: Wait + Eprint + Clock>(
 }
 
 /// What waits for the account of a session may be delivered, since it has another worker.
-fn feed<S: StableStore, L: Begins, R: Wait + Eprint + Clock>(
+fn feed<S: GroupStore, L: Begins, R: Wait + Eprint + Clock>(
     shift: &Shift<'_, S, L, R>,
     number: u8,
 ) -> Result<(), Trouble> {
@@ -53,7 +53,7 @@ fn feed<S: StableStore, L: Begins, R: Wait + Eprint + Clock>(
 }
 
 /// Makes a delivery: has its attempt granted, carries it to the ESME, and hands in what came of it. Its place is free then.
-fn deliver<'x, S: StableStore, L: Begins, R: Wait + Eprint + Clock>(
+fn deliver<'x, S: GroupStore, L: Begins, R: Wait + Eprint + Clock>(
     shift: &Shift<'_, S, L, R>,
     connection: &'x Connection,
     berth: &'x Berth,
@@ -88,7 +88,7 @@ fn heard_in(job: &Job) -> Heard
 }
 
 /// The place of a delivery on its session is free: others may be made, and the node ticks at once if it is to begin more.
-fn free<S: StableStore, L: Begins, R: Wait + Eprint + Clock>(
+fn free<S: GroupStore, L: Begins, R: Wait + Eprint + Clock>(
     shift: &Shift<'_, S, L, R>,
     connection: &Connection,
     job: &Job,
@@ -107,7 +107,7 @@ fn free<S: StableStore, L: Begins, R: Wait + Eprint + Clock>(
 }
 
 /// The packets that the last step of a seat sent are handed in to all nodes.
-fn ring_last<S: StableStore, L: Begins, R: Wait + Eprint + Clock>(
+fn ring_last<S: GroupStore, L: Begins, R: Wait + Eprint + Clock>(
     shift: &Shift<'_, S, L, R>,
     seat: &Seat<L>,
 ) {
