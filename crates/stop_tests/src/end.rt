@@ -5,7 +5,7 @@ use crate::same::assert_same;
 use crate::scene::Scene;
 use mc_types::MsgId;
 use node_core::Node;
-use stable_store::StableStore;
+use stable_store::GroupStore;
 use std::process::Abort;
 
 // Ticks by which an attempt that was open ends, and another one follows; behind each an attempt is asked for.
@@ -16,7 +16,7 @@ const ATTEMPTS: &[&str] = &[
 ];
 
 // What a query_sm of the message says of it: its state, if it is known.
-fn state<S: StableStore>(rt: &impl Abort, scene: &mut Scene, node: &mut Node<S>) -> Option<u64> {
+fn state<S: GroupStore>(rt: &impl Abort, scene: &mut Scene, node: &mut Node<S>) -> Option<u64> {
     hand_all(rt, scene, node, "query 1\nsettle");
     let Some(numbers) = scene.said("Shown") else {
         assert!(rt; scene.said("Unknown").is_some());
@@ -27,14 +27,14 @@ fn state<S: StableStore>(rt: &impl Abort, scene: &mut Scene, node: &mut Node<S>)
 }
 
 // Whoever submitted the message, and was not answered, submits it once more.
-fn submit_again<S: StableStore>(rt: &impl Abort, scene: &mut Scene, node: &mut Node<S>) {
+fn submit_again<S: GroupStore>(rt: &impl Abort, scene: &mut Scene, node: &mut Node<S>) {
     hand_all(rt, scene, node, "submit_with_receipt 1\nsettle");
     let [_, id, ..] = scene.said("Accepted").expect(rt, "it is taken");
     scene.id = MsgId::of_number(id).ok().expect(rt, "an id");
 }
 
 // An attempt is asked for, and if it is granted the message is delivered.
-fn attempt<S: StableStore>(rt: &impl Abort, scene: &mut Scene, node: &mut Node<S>, lines: &str) {
+fn attempt<S: GroupStore>(rt: &impl Abort, scene: &mut Scene, node: &mut Node<S>, lines: &str) {
     hand_all(rt, scene, node, lines);
     let Some(numbers) = scene.said("Granted") else {
         return;
@@ -49,7 +49,7 @@ fn attempt<S: StableStore>(rt: &impl Abort, scene: &mut Scene, node: &mut Node<S
 }
 
 // The message is DELIVERED (2) after a stop of its node, which is alone. If it was taken, it is known.
-fn bring_to_its_end<S: StableStore>(rt: &impl Abort, scene: &mut Scene, node: &mut Node<S>) {
+fn bring_to_its_end<S: GroupStore>(rt: &impl Abort, scene: &mut Scene, node: &mut Node<S>) {
     hand_all(rt, scene, node, "tick 1 1706659200");
     if state(rt, scene, node).is_none() {
         assert!(rt; !scene.is_taken);
@@ -63,7 +63,7 @@ fn bring_to_its_end<S: StableStore>(rt: &impl Abort, scene: &mut Scene, node: &m
 }
 
 // The play comes to its end, and the node does not stop again.
-pub fn end<S: StableStore>(rt: &impl Abort, scene: &mut Scene, node: &mut Node<S>) {
+pub fn end<S: GroupStore>(rt: &impl Abort, scene: &mut Scene, node: &mut Node<S>) {
     scene.halt = None;
     if scene.play.nodes == 1 {
         bring_to_its_end(rt, scene, node);

@@ -1,10 +1,11 @@
 //! What comes to the node that is watched, and to the others.
 
+use crate::at_once::{next_packets, take_at_once};
 use crate::play::line_of;
 use crate::scene::Scene;
 use lines_of_tests::{numbers, step};
 use node_core::{Input, Node};
-use stable_store::StableStore;
+use stable_store::{GroupStore, StableStore};
 use std::process::Abort;
 use synod_acceptor::Packet;
 
@@ -26,33 +27,67 @@ fn take<S: StableStore>(
     }
 }
 
-// A packet comes to each node.
-fn come<S: StableStore>(
+// Packets come to a node, one behind the other.
+fn take_each<S: StableStore>(
     rt: &impl Abort,
     scene: &mut Scene,
     watched: &mut Node<S>,
-    packet: &Packet,
+    number: u64,
+    packets: &[Packet],
 ) {
-    for number in 1..=u64::from(scene.play.nodes) {
+    for packet in packets {
         let copy = packet.copy().expect(rt, "memory");
         take(rt, scene, watched, number, Input::Packet(copy));
     }
 }
 
+// Packets come to the watched node: behind one save, if they are several.
+fn watched_takes<S: GroupStore>(
+    rt: &impl Abort,
+    scene: &mut Scene,
+    watched: &mut Node<S>,
+    packets: &[Packet],
+) {
+    let number = scene.play.watched;
+    if packets.len() < 2 || watched.is_broken() {
+        return take_each(rt, scene, watched, number, packets);
+    }
+    let apart = take_at_once(rt, scene, watched, packets);
+    take_each(rt, scene, watched, number, &apart);
+    drop(apart);
+}
+
+// Packets come to each node.
+fn come<S: GroupStore>(
+    rt: &impl Abort,
+    scene: &mut Scene,
+    watched: &mut Node<S>,
+    packets: &[Packet],
+) {
+    for number in 1..=u64::from(scene.play.nodes) {
+        if number == scene.play.watched {
+            watched_takes(rt, scene, watched, packets);
+        } else {
+            take_each(rt, scene, watched, number, packets);
+        }
+    }
+}
+
 // Each packet comes, those that are sent meanwhile, too.
-fn settle<S: StableStore>(rt: &impl Abort, scene: &mut Scene, watched: &mut Node<S>) {
+fn settle<S: GroupStore>(rt: &impl Abort, scene: &mut Scene, watched: &mut Node<S>) {
     for _ in 0..MOST {
-        let Some(packet) = scene.packets.pop_front() else {
+        let packets = next_packets(rt, scene);
+        if packets.is_empty() {
             return;
-        };
-        come(rt, scene, watched, &packet);
-        drop(packet);
+        }
+        come(rt, scene, watched, &packets);
+        drop(packets);
     }
     panic!(rt; "too many packets");
 }
 
 // What a line says comes: `settle`, or an input with its node behind its word.
-fn hand<S: StableStore>(rt: &impl Abort, scene: &mut Scene, watched: &mut Node<S>, line: &str) {
+fn hand<S: GroupStore>(rt: &impl Abort, scene: &mut Scene, watched: &mut Node<S>, line: &str) {
     scene.begin_line();
     let (word, rest) = line.split_once(' ').unwrap_or((line, ""));
     if word == "settle" {
@@ -65,7 +100,7 @@ fn hand<S: StableStore>(rt: &impl Abort, scene: &mut Scene, watched: &mut Node<S
 }
 
 // What these lines say comes, one behind the other.
-pub fn hand_all<S: StableStore>(
+pub fn hand_all<S: GroupStore>(
     rt: &impl Abort,
     scene: &mut Scene,
     watched: &mut Node<S>,
@@ -77,7 +112,7 @@ pub fn hand_all<S: StableStore>(
 }
 
 // Hands the rows in that were not played yet, up to the one at which the watched node stops. What that row tells at a node alone is not looked at.
-pub fn play_on<S: StableStore>(rt: &impl Abort, scene: &mut Scene, watched: &mut Node<S>) {
+pub fn play_on<S: GroupStore>(rt: &impl Abort, scene: &mut Scene, watched: &mut Node<S>) {
     let play = scene.play;
     for row in play.rows.lines().skip(scene.rows) {
         scene.rows = scene.rows.saturating_add(1);

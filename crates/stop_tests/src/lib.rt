@@ -4,6 +4,8 @@
 #[cfg(test)]
 mod again;
 #[cfg(test)]
+mod at_once;
+#[cfg(test)]
 mod end;
 #[cfg(test)]
 mod files;

@@ -4,7 +4,7 @@ use crate::end::end;
 use crate::hands::play_on;
 use crate::scene::{Halt, Scene, opened, set_up};
 use node_core::{Node, Setup, open_node};
-use stable_store::StableStore;
+use stable_store::GroupStore;
 use std::process::Abort;
 
 // What is done with a store.
@@ -22,12 +22,12 @@ fn setup(rt: &impl Abort, scene: &Scene) -> Setup {
     set_up(rt, scene.play.watched, scene.play.nodes)
 }
 
-fn played<S: StableStore>(rt: &impl Abort, scene: &mut Scene, mut watched: Node<S>) -> S {
+fn played<S: GroupStore>(rt: &impl Abort, scene: &mut Scene, mut watched: Node<S>) -> S {
     play_on(rt, scene, &mut watched);
     watched.into_store()
 }
 
-fn play<S: StableStore>(rt: &impl Abort, scene: &mut Scene, store: S) -> S {
+fn play<S: GroupStore>(rt: &impl Abort, scene: &mut Scene, store: S) -> S {
     let setup = setup(rt, scene);
     match open_node(scene.alloc, store, setup) {
         Ok((watched, _life)) => played(rt, scene, watched),
@@ -38,7 +38,7 @@ fn play<S: StableStore>(rt: &impl Abort, scene: &mut Scene, store: S) -> S {
     }
 }
 
-fn start_anew<S: StableStore>(rt: &impl Abort, scene: &mut Scene, store: S) -> S {
+fn start_anew<S: GroupStore>(rt: &impl Abort, scene: &mut Scene, store: S) -> S {
     let setup = setup(rt, scene);
     let (mut watched, life) = opened(rt, scene.alloc, store, setup);
     scene.incarnation = life.incarnation().number();
@@ -47,7 +47,7 @@ fn start_anew<S: StableStore>(rt: &impl Abort, scene: &mut Scene, store: S) -> S
 }
 
 // Does a task with a store, which is given back.
-pub fn perform<S: StableStore>(rt: &impl Abort, scene: &mut Scene, mut store: S, task: Task) -> S {
+pub fn perform<S: GroupStore>(rt: &impl Abort, scene: &mut Scene, mut store: S, task: Task) -> S {
     if let Task::Play = task {
         return play(rt, scene, store);
     }

@@ -14,9 +14,12 @@ use std::process::Abort;
 use synod_acceptor::{Packet, Record};
 
 // That a save failed, and that one failed before.
-const STOPPED: Answer = ("Uncommitted", [4, 0, 0, 0]);
+pub const STOPPED: Answer = ("Uncommitted", [4, 0, 0, 0]);
 
 const BROKEN: Answer = ("Unprepared", [1, 0, 0, 0]);
+
+// That a line told more than one thing.
+const SEVERAL: Answer = ("Several", [0; 4]);
 
 // When the watched node stopped: while it opened, or in the save that comes after so many steps.
 #[derive(Clone, Copy, PartialEq)]
@@ -162,7 +165,7 @@ impl Scene {
         let told = match self.told.as_slice() {
             [] => NOTHING,
             [told] => *told,
-            _ => ("Other", [0; 4]),
+            _ => SEVERAL,
         };
         assert_same(rt, &(row, told), &(row, wanted));
     }

@@ -1,7 +1,7 @@
 //! A stop at each call of the disk.
 
 use crate::files::Left;
-use crate::play::{ALONE, OF_THREE, Play};
+use crate::play::{ALONE, FIVE_AT_ONCE, OF_THREE, Play, TWO_AT_ONCE};
 use crate::scene::{Halt, Scene};
 use crate::stops::{Stop, stops};
 use crate::sweep::{Stopping, Sweep};
@@ -132,4 +132,34 @@ fn a_node_of_three_is_killed_at_each_call_and_its_log_is_cut(rt: HostRuntime) {
 #[test]
 fn a_node_of_three_loses_its_machine_at_each_call(rt: HostRuntime) {
     assert_swept(&rt, rt.alloc(), OF_THREE, Left::Synced);
+}
+
+#[test]
+fn a_node_that_takes_two_at_once_is_killed_at_each_call(rt: HostRuntime) {
+    assert_swept(&rt, rt.alloc(), TWO_AT_ONCE, Left::Written);
+}
+
+#[test]
+fn a_node_that_takes_two_at_once_is_killed_at_each_call_and_its_log_is_cut(rt: HostRuntime) {
+    assert_swept(&rt, rt.alloc(), TWO_AT_ONCE, Left::WholeFrames);
+}
+
+#[test]
+fn a_node_that_takes_two_at_once_loses_its_machine_at_each_call(rt: HostRuntime) {
+    assert_swept(&rt, rt.alloc(), TWO_AT_ONCE, Left::Synced);
+}
+
+#[test]
+fn a_node_that_takes_five_at_once_is_killed_at_each_call(rt: HostRuntime) {
+    assert_swept(&rt, rt.alloc(), FIVE_AT_ONCE, Left::Written);
+}
+
+#[test]
+fn a_node_that_takes_five_at_once_is_killed_at_each_call_and_its_log_is_cut(rt: HostRuntime) {
+    assert_swept(&rt, rt.alloc(), FIVE_AT_ONCE, Left::WholeFrames);
+}
+
+#[test]
+fn a_node_that_takes_five_at_once_loses_its_machine_at_each_call(rt: HostRuntime) {
+    assert_swept(&rt, rt.alloc(), FIVE_AT_ONCE, Left::Synced);
 }
