@@ -4,14 +4,14 @@ ghost use Rattle.std.specs.Prelude.{◌≡◌};
 ghost use Rattle.journal_parts.specs.Members.{IsBeginning};
 ghost use Rattle.journal_parts.specs.Numbers.{none_sent};
 
-use crate::hands::{asked, settled, ticked};
+use crate::hands::{asked, carried, settled, ticked};
 use crate::opened::{PARTS, opened};
 use crate::same::assert_same;
 use delivery::Outcome;
 use lines_of_tests::first_id;
 use node_core::{Life, Node, Permit};
 use node_threads::{Begins, Cluster, Seat};
-use stable_store::ListStore;
+use stable_store::{ListStore, StableStore};
 use std::alloc::Global;
 use std::marker::Brand;
 use std::process::Abort;
@@ -25,10 +25,10 @@ const MOST_ENTRIES: u32 = 200_000;
 const FULL: u8 = 1;
 
 /// Hands in ticks until one is refused: how many were not, and the number of the refusal.
-fn filled<L: Begins, R: Wait + Abort>(
+pub fn filled<S: StableStore, L: Begins, R: Wait + Abort>(
     rt: &R,
     alloc: Global,
-    cluster: &Cluster<ListStore, L>,
+    cluster: &Cluster<S, L>,
     seat: &mut Seat<L>,
 ) -> (u32, u8) {
     for count in 0..=MOST_ENTRIES {
@@ -40,10 +40,10 @@ fn filled<L: Begins, R: Wait + Abort>(
 }
 
 /// How many entries the journal of a cluster has as it closes with its one seat.
-fn entries<L: Begins, R: Wait + Abort>(
+pub fn entries<S: StableStore + Drop, L: Begins, R: Wait + Abort>(
     rt: &R,
     alloc: Global,
-    cluster: Cluster<ListStore, L>,
+    cluster: Cluster<S, L>,
     seat: Seat<L>,
 ) -> usize {
     let mut seats = Vec::new(alloc);
@@ -162,4 +162,44 @@ fn a_full_journal_hands_a_permit_back(rt: HostRuntime) {
         &life,
     );
     assert_same(&rt, &found, &(Some(FULL), 200_000));
+}
+
+/// A node is handed two messages, ticks until the journal has room for one entry, both packets at once, a tick, and both packets again: the number of each refusal,
+/// and whether the tick was taken.
+fn carried_when_full<L: Begins, R: Wait + Abort>(
+    rt: &R,
+    alloc: Global,
+    blank: Blank,
+    node: Node<ListStore>,
+) -> ([(u64, Option<u8>); 2], bool, usize)
+    requires name { blank.name ≡ L.name }
+    requires parts { blank.parts ≡ L.parts }
+    requires all { blank.parts ≡ 1000000 }
+    requires numbers { L.numbers ≡ none_sent }
+    requires begins { IsBeginning L.cluster L.kept node }
+    requires alone { L.cluster.nodes ≡ 1 }
+{
+    let mut nodes = Vec::new(alloc);
+    nodes.push(node).expect(rt, "memory");
+    let cluster = Cluster::<ListStore, L>::start(alloc, blank, nodes).expect(rt, "a cluster");
+    let mut seat = cluster.seat(rt).expect(rt, "a seat");
+    drop(asked(rt, alloc, &cluster, &mut seat, (1, "submit_with_receipt")));
+    drop(asked(rt, alloc, &cluster, &mut seat, (1, "submit_with_receipt")));
+    for _ in 3..MOST_ENTRIES {
+        drop(ticked(rt, alloc, &cluster, &mut seat, false).expect(rt, "a slip"));
+    }
+    let first = carried(rt, &cluster, &mut seat, 1);
+    let is_taken = ticked(rt, alloc, &cluster, &mut seat, false).is_ok();
+    let second = carried(rt, &cluster, &mut seat, 1);
+    ([first, second], is_taken, entries(rt, alloc, cluster, seat))
+}
+
+/// Two packets at once that are refused leave room for one entry, as it was.
+#[test]
+fn a_journal_with_room_for_one_refuses_two_packets_at_once(rt: HostRuntime) {
+    let alloc = rt.alloc();
+    let (node, _life) = opened(&rt, alloc, ListStore::make(alloc));
+    let found = carried_when_full::<Brand, HostRuntime>(&rt, alloc, Blank::new(PARTS), node);
+    let refused = (1, Some(FULL));
+    assert_same(&rt, &found, &([refused; 2], true, 200_000));
 }

@@ -3,7 +3,7 @@
 use lines_of_tests::{account, node, request};
 use mc_types::{Moment, NodeNo};
 use node_threads::{Action, Begins, Cluster, Reach, Refusal, Seat, Slip};
-use stable_store::StableStore;
+use stable_store::{GroupStore, StableStore};
 use std::alloc::Global;
 use std::process::Abort;
 use std::sync::Wait;
@@ -81,6 +81,25 @@ pub fn settled<S: StableStore, L: Begins, R: Wait + Abort>(
     for number in from..MOST {
         if let Some(refusal) = come(rt, cluster, seat, nodes, number) {
             return (number, refusal);
+        }
+    }
+    panic!(rt; "too many packets");
+}
+
+/// Hands in the packets from this number on to node 1, as many at once as may be, until they are refused or none is left: the number of the first that is left, and
+/// that of the refusal.
+pub fn carried<S: GroupStore, L: Begins, R: Wait + Abort>(
+    rt: &R,
+    cluster: &Cluster<S, L>,
+    seat: &mut Seat<L>,
+    from: u64,
+) -> (u64, Option<u8>) {
+    let mut next = from;
+    for _ in 0..MOST {
+        match cluster.carry(rt, seat, numbered(rt, 1), next, u64::MAX) {
+            Ok(0) => return (next, None),
+            Ok(count) => next = next.saturating_add(count),
+            Err(refusal) => return (next, Some(refusal.number())),
         }
     }
     panic!(rt; "too many packets");

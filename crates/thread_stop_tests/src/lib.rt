@@ -3,6 +3,8 @@
 #![tactic(auto)]
 
 #[cfg(test)]
+mod failed_groups;
+#[cfg(test)]
 mod failed_saves;
 #[cfg(test)]
 mod full;

@@ -4,6 +4,8 @@
 #[cfg(test)]
 mod all_slips;
 #[cfg(test)]
+mod carried;
+#[cfg(test)]
 mod closings;
 #[cfg(test)]
 mod clusters;
