@@ -1,5 +1,6 @@
 //! Clients of the tests.
 
+use crate::crowd::crowded;
 use std::alloc::Global;
 use std::io::{Read, Write};
 use std::net::{Net, SocketAddr, TcpListener, TcpStream};
@@ -20,6 +21,8 @@ pub enum Client {
     Stubborn,
     /// It binds as a transmitter, and submits so many messages, 150 milliseconds apart.
     Steady(u32),
+    /// It binds as a transmitter, and submits ten messages at once, until the node has started anew; then it asks for each that was accepted.
+    Crowd,
     /// It binds, and asks what the server tells of itself, while another connection of its own says nothing there.
     Asking,
 }
@@ -44,6 +47,7 @@ impl Client {
             Client::Plain => talked(rt, alloc, address, &PLAIN),
             Client::Stubborn => talked(rt, alloc, address, &STUBBORN),
             Client::Steady(count) => submitted(rt, alloc, address, count),
+            Client::Crowd => crowded(rt, alloc, address),
             Client::Asking => asked(rt, alloc, addresses),
         }
     }
@@ -59,7 +63,8 @@ pub const BIND: &[u8] = b"\0\0\0\x1e\0\0\0\x09\0\0\0\0\0\0\0\x01sme1\0pw1\0\0\x3
 pub const BOUND: &[u8] = b"\0\0\0\x1c\x80\0\0\x09\0\0\0\0\0\0\0\x01CENTRE\0\x02\x10\0\x01\x34";
 
 /// bind_transmitter of the same, whose answer is as long.
-const BIND_TRANSMITTER: &[u8] = b"\0\0\0\x1e\0\0\0\x02\0\0\0\0\0\0\0\x01sme1\0pw1\0\0\x34\0\0\0";
+pub const BIND_TRANSMITTER: &[u8] =
+    b"\0\0\0\x1e\0\0\0\x02\0\0\0\0\0\0\0\x01sme1\0pw1\0\0\x34\0\0\0";
 
 /// The command and its status behind which a sequence_number stands in a submit_sm, and what stands behind that: from 144 to 155, the text Hi.
 const BEFORE: &[u8] = b"\0\0\0\x29\0\0\0\x04\0\0\0\0";
@@ -93,6 +98,13 @@ const STUBBORN: [Turn; 3] = [
     (SUBMIT_AGAIN, TAKEN_ANEW.len()),
 ];
 
+/// A submit_sm with this sequence_number.
+pub fn submit_sm(rt: &impl Abort, alloc: Global, sequence: u32) -> Vec<u8> {
+    [BEFORE, &sequence.to_be_bytes(), BEHIND]
+        .concat(alloc)
+        .expect(rt, "memory")
+}
+
 /// What a client hears after each of so many submit_sm.
 fn submitted<R: Abort + Clock + Net<Listener = TcpListener, Stream = TcpStream>>(
     rt: &R,
@@ -106,10 +118,7 @@ fn submitted<R: Abort + Clock + Net<Listener = TcpListener, Stream = TcpStream>>
     let mut bound = Vec::new(alloc);
     let _ = read_on(rt, &mut stream, &mut bound, BOUND.len());
     for place in 0..count {
-        let sequence = place.saturating_add(2).to_be_bytes();
-        let submit = [BEFORE, &sequence, BEHIND]
-            .concat(alloc)
-            .expect(rt, "memory");
+        let submit = submit_sm(rt, alloc, place.saturating_add(2));
         stream.write_all(&submit).expect(rt, "a write");
         let mut answer = Vec::new(alloc);
         let _ = read_on(rt, &mut stream, &mut answer, TAKEN.len());
@@ -212,7 +221,7 @@ fn talked_once<R: Abort + Net<Listener = TcpListener, Stream = TcpStream>>(
 }
 
 /// Reads so many octets more: whether all of them came.
-fn read_on(rt: &impl Abort, stream: &mut TcpStream, heard: &mut Vec<u8>, count: usize) -> bool {
+pub fn read_on(rt: &impl Abort, stream: &mut TcpStream, heard: &mut Vec<u8>, count: usize) -> bool {
     for _ in 0..count {
         let mut octet = [0u8; 1];
         match stream.read(&mut octet) {

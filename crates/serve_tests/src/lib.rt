@@ -6,6 +6,12 @@ mod clients;
 #[cfg(test)]
 mod courses;
 #[cfg(test)]
+mod crowd;
+#[cfg(test)]
+mod failed_group;
+#[cfg(test)]
+mod failing_group_store;
+#[cfg(test)]
 mod on_and_on;
 #[cfg(test)]
 mod once;

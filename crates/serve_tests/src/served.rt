@@ -9,7 +9,7 @@ use crate::clients::{Addresses, Client};
 use config::{Config, Own};
 use node_threads::{Defaults, Life, Node, open_nodes, opened_nodes_begin};
 use server::{Beginning, Doors, Ending, Entrance, Served, Settings, StatusDoor, Stop, serve};
-use stable_store::StableStore;
+use stable_store::{GroupStore, StableStore};
 use std::alloc::Global;
 use std::hash::RandomState;
 use std::marker::Brand;
@@ -97,7 +97,7 @@ fn settings(rt: &impl Abort, alloc: Global, case: Case) -> Settings {
 
 /// A server that is to begin.
 #[derive(Drop)]
-struct Opening<S: StableStore> {
+struct Opening<S: GroupStore> {
     beginning: Beginning<S>,
     doors: Doors,
     settings: Settings,
@@ -118,7 +118,7 @@ struct Listening {
 }
 
 /// A server over this store, which listens here.
-fn made<S: StableStore + Drop>(
+fn made<S: GroupStore + Drop>(
     rt: &impl Abort,
     alloc: Global,
     store: S,
@@ -150,7 +150,7 @@ fn made<S: StableStore + Drop>(
 }
 
 /// How a server ends.
-fn finished<S: StableStore + Send + Sync + Drop, R: Threads + Wait + Eprint + Clock + Abort + Sync>(
+fn finished<S: GroupStore + Send + Sync + Drop, R: Threads + Wait + Eprint + Clock + Abort + Sync>(
     rt: &R,
     alloc: Global,
     start: Opening<S>,
@@ -212,7 +212,7 @@ fn open_port<R: Abort + Net<Listener = TcpListener, Stream = TcpStream>>(
 
 /// What the client of a case hears, and how the server ends over this store once its session has.
 pub fn served<
-    S: StableStore + Send + Sync + Drop,
+    S: GroupStore + Send + Sync + Drop,
     R: Threads
         + Wait
         + Eprint
