@@ -12,7 +12,7 @@ const AT_ONCE: u32 = 10;
 /// How often ten are submitted, at most.
 const MOST_TIMES: u32 = 500;
 
-/// How long the header of a PDU is, and at which place of an answer its message_id begins, and how many octets that has.
+/// How many octets the header of a PDU has, behind which the message_id of an answer begins, and how many that has.
 const HEADER: usize = 16;
 
 const DIGITS: usize = 10;

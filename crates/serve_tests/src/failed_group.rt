@@ -10,7 +10,7 @@ use stable_store::Found;
 use std::alloc::Global;
 use std::process::Abort;
 
-/// The octets of an answer to a submit_sm, but for the sequence_number: ESME_RSYSERR.
+/// How many octets of an answer stand in front of its sequence_number.
 const WITHOUT_NUMBER: usize = 12;
 
 /// What is answered to a query_sm of a message that is ENROUTE (1), but for its message_id: ESME_ROK and the sequence_number 1; no date, no error.
@@ -18,7 +18,7 @@ const BEFORE_ID: &[u8] = b"\0\0\0\x1e\x80\0\0\x03\0\0\0\0\0\0\0\x01";
 
 const BEHIND_ID: &[u8] = b"\0\0\x01\0";
 
-/// What is wanted as answer to a query_sm of each message that was accepted. Each other answer says ESME_RSYSERR.
+/// What is wanted as answer to a query_sm of each message that these accept. The others say ESME_RSYSERR.
 fn wanted(rt: &impl Abort, alloc: Global, answers: &[Vec<u8>]) -> Vec<Vec<u8>> {
     let mut states = Vec::new(alloc);
     for answer in answers {
