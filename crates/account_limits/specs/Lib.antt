@@ -1,0 +1,9 @@
+pub mod Numbers
+pub mod Addresses
+pub mod Nets
+pub mod Senders
+pub mod Paces
+pub mod Tries
+pub mod Hashing
+pub mod Passwords
+pub mod Limits
