@@ -3,8 +3,8 @@ import re
 
 from repository import TOP, git
 
-# The numbering of papers that no reader of the repository has.
-PAPERS = re.compile(r"(?<!\w)(R(1[0-6]|[1-9])[a-e]?|T[1-5]|D(2[0-3]|1[0-9]|[1-9])|W(2[0-2]|1[0-9]|[1-9])[ab]?|P[1-6]|V(1[0-8]|[1-9])"
+# The numbering of papers that no reader of the repository has. Behind a dot or a colon stands a name of code, as `IpAddr::V4`.
+PAPERS = re.compile(r"(?<![\w.:])(R(1[0-6]|[1-9])[a-e]?|T[1-5]|D(2[0-3]|1[0-9]|[1-9])|W(2[0-2]|1[0-9]|[1-9])[ab]?|P[1-6]|V(1[0-8]|[1-9])"
                     r"|document 0[1-4]|0[1-4]-[a-z]+\.md)(?!\w)")
 # What a text may name of the tools: a file, or a folder.
 TOOL = re.compile(r"(?<![\w/])(?:tools|bench)/\w+(?:\.py)?\b")

@@ -1,7 +1,7 @@
 -- Nets: which addresses are in one, and how one is written (own).
 use Rattle.std.specs.Prelude.{◌≡◌, ◌⊎◌, ℕ, Bool, false, ◌==◌, ◌-◌, List, take, position, Option, Some, None, Result, Ok, Err, if◌then◌else◌}
 use Rattle.std.specs.declared.net.ip_addr.IpAddr.{IpAddr}
-use Rattle.std.specs.declared.net.ip_addr.IpAddr.TheVariants.{V4, V6}
+use Rattle.std.specs.declared.net.ip_addr.IpAddr.TheVariants as families
 use Rattle.std.specs.Net.Addr.{ipv4_bits, ipv6_bits}
 use Rattle.std.specs.Net.Grammar.{IsIpText}
 use Rattle.account_limits.specs.declared.net.Net.{Net}
@@ -12,10 +12,10 @@ use Rattle.account_limits.specs.Numbers.{behind, first_bits, has_loose_bits, num
 
 -- whether an address has the first bits of another, of the same family
 abbrev pub has_first_bits : ℕ → IpAddr → IpAddr → Bool
-has_first_bits length (V4 own) (V4 other) = first_bits (ipv4_bits own) (32 - length) == first_bits (ipv4_bits other) (32 - length)
-has_first_bits length (V4 own) (V6 other) = false
-has_first_bits length (V6 own) (V4 other) = false
-has_first_bits length (V6 own) (V6 other) = first_bits (ipv6_bits own) (128 - length) == first_bits (ipv6_bits other) (128 - length)
+has_first_bits length (families.V4 own) (families.V4 other) = first_bits (ipv4_bits own) (32 - length) == first_bits (ipv4_bits other) (32 - length)
+has_first_bits length (families.V4 own) (families.V6 other) = false
+has_first_bits length (families.V6 own) (families.V4 other) = false
+has_first_bits length (families.V6 own) (families.V6 other) = first_bits (ipv6_bits own) (128 - length) == first_bits (ipv6_bits other) (128 - length)
 
 abbrev pub is_in : Net → IpAddr → Bool
 is_in net address = has_first_bits net.length net.address address
