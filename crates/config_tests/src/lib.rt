@@ -6,6 +6,8 @@ mod accounts_tests;
 #[cfg(test)]
 mod faults;
 #[cfg(test)]
+mod limits;
+#[cfg(test)]
 mod own;
 #[cfg(test)]
 mod same;

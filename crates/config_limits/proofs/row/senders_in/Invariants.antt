@@ -1,0 +1,7 @@
+use Rattle.std.proofs.Common.{map, take}
+use Rattle.toml.specs.View.{view}
+use Rattle.config_limits.specs.Reading.{EachSays, IsSender}
+use Rattle.config_limits.proofs.row.senders_in.Given as goal
+
+abbrev pub invariant-loop-value : goal.invariant-loop-value
+invariant-loop-value l = EachSays IsSender (map view (take l.value-index l.values)) l.senders.items
