@@ -49,7 +49,7 @@ impl PasswordHash {
         }
     }
 
-    /// Whether it is the hash of a password; of one of more than 64 octets it is none. It takes a time that grows with the rounds: 1,000 of them about a millisecond.
+    /// Whether it is the hash of a password; of one of more than 64 octets it is none. It takes a time that grows with the rounds.
     pub fn is_of(&self, password: &[u8]) -> bool
         ensures { result ≡ is_password self.now password.now }
     {
