@@ -49,7 +49,9 @@ fn submissions_in(answers: &[Vec<u8>]) -> usize {
 
 /// The node started anew, since its store failed, and no message that was accepted before or behind that is unknown at the end.
 fn assert_known(rt: &impl Abort, alloc: Global, heard: &[Vec<u8>]) {
-    let (answers, states) = heard.split_at(submissions_in(heard));
+    let count = submissions_in(heard);
+    let answers = heard.get(..count).expect(rt, "answers");
+    let states = heard.get(count..).expect(rt, "states");
     let wanted = wanted(rt, alloc, answers);
     assert_same(rt, &states, &wanted.as_slice());
     let first = answers.first().and_then(|answer| accepted_id(answer));
