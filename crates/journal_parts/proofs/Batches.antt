@@ -1,5 +1,5 @@
 -- The numbers of packets that are handed in at once are those from the first on.
-use Rattle.std.proofs.Common.{◌≡◌, ◌⊎◌, ◌<◌, ◌≤◌, ◌+◌, ℕ, List, [], ◌∷◌, ◌++◌, length, length-append, sym, subst, ap, inl, inr, arith}
+use Rattle.std.proofs.Common.{◌≡◌, ◌⊎◌, ◌≤◌, ◌+◌, ℕ, List, [], ◌∷◌, ◌++◌, length, length-append, sym, subst, ap, inl, inr, arith}
 use Rattle.std.proofs.Math.Nat.{eq-or-lt_of_le}
 use Rattle.mc_model.specs.synod.Lists.{In}
 use Rattle.journal_parts.specs.Batches.{Covers, IsOneMore}

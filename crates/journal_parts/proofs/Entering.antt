@@ -2,9 +2,9 @@
 use Rattle.std.proofs.Common.{◌≡◌, List, [], ◌∷◌, ◌++◌, map, refl, sym, ap, subst, ◌∙◌, append_assoc, inl}
 use Rattle.mc_model.specs.synod.Lists.{In}
 use Rattle.mc_parts.proofs.Membership.{in_right}
-use Rattle.std.proofs.lemmas.List.{append-nil, map-append}
+use Rattle.std.proofs.lemmas.List.{map-append}
 use Rattle.journal_laws.specs.Journals.{Entry}
-use Rattle.journal_parts.specs.Registers.{EntersFront, EntersThose, HasEntered}
+use Rattle.journal_parts.specs.Registers.{HasEntered}
 use Rattle.journal_parts.specs.Slips.{Slipped}
 
 -- of these entries the first are added, with their slips, and these are left

@@ -22,7 +22,7 @@ use Rattle.node_core.specs.Keeping.{kept_of}
 use Rattle.node_core.specs.Kept.{Kept as Holding}
 use Rattle.node_core.specs.Nodes.{AreGiven, HasSettled, HasTakenAll, Standing, unbroken}
 use Rattle.node_core.specs.Outputs.{Outputs}
-use Rattle.node_core.specs.Steps.{input_of, outputs_of}
+use Rattle.node_core.specs.Steps.{outputs_of}
 use Rattle.journal_laws.specs.Journals.{Done, Entry, IsInRange, IsOwnRun, done_in}
 use Rattle.journal_laws.specs.Taken.{IsTakenBy}
 use Rattle.journal_laws.proofs.Joining.{done_both, own_both}

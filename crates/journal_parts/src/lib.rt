@@ -24,9 +24,9 @@ mod seat;
 mod silent;
 mod slip;
 
+pub use batch::Batch;
 pub use begins::Begins;
 pub use carried::Carried;
-pub use batch::Batch;
 pub use claim::{Claim, Claims};
 pub use copies::EntryCopies;
 pub use done::Done;

@@ -24,9 +24,9 @@ ghost use Rattle.journal_parts.specs.Granting.{IsLeastAbove};
 
 use crate::begins::Begins;
 use crate::copies::EntryCopies;
+use crate::done::Done;
 use crate::entry::Entry;
 use crate::post::Post;
-use crate::done::Done;
 use crate::ready::Ready;
 use crate::ready_group::ReadyGroup;
 use crate::refusal::Refusal;

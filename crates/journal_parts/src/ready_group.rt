@@ -59,7 +59,15 @@ impl ReadyGroup {
         let mut dones = Vec::with_capacity(alloc, numbers.len())?;
         let mut copies = Vec::with_capacity(alloc, numbers.len())?;
         for place in 0..numbers.len() {
-            let done = done_at(alloc, &group, place, Step::Deliver { number: numbers[place], node })?;
+            let done = done_at(
+                alloc,
+                &group,
+                place,
+                Step::Deliver {
+                    number: numbers[place],
+                    node,
+                },
+            )?;
             copies.push(EntryCopies::of(&Entry::of(Arc::try_clone(&done)?))?)?;
             dones.push(done)?;
         }

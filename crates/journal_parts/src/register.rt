@@ -16,9 +16,9 @@ ghost use Rattle.journal_parts.specs.Registers.{EntersEach, EntersFront, EntersT
 ghost use Rattle.journal_parts.specs.declared.carried.Carried.{Carried as Again};
 ghost use Rattle.journal_parts.specs.declared.refusal.Refusal.TheVariants.{Broken, Full, Memory, NoSuchPacket};
 
+use crate::batch::{Batch, MOST_AT_ONCE};
 use crate::begins::Begins;
 use crate::carried::Carried;
-use crate::batch::{Batch, MOST_AT_ONCE};
 use crate::claim::{Claim, Claims};
 use crate::copies::EntryCopies;
 use crate::entry::Entry;

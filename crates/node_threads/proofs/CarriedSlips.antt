@@ -146,7 +146,7 @@ pub next_split : (number one index : ℕ) (numbers these those more most : List 
 next_split number one index numbers these those more most below read adds (inl stands) = inl (older number one these those more most adds stands)
 next_split number one index numbers these those more most below read adds (inr left) =
     let among : In number (one ∷ drop (index + 1) numbers) = subst (λ (ns : List ℕ). In number ns) (after_it numbers index one below read) left in
-    elim among [ | inl here ↦ inl (newest number one these those more most adds here) | inr later ↦ inr later ]
+    elim among [ inl here ↦ inl (newest number one these those more most adds here) | inr later ↦ inr later ]
 
 pub none_left : (number index : ℕ) (numbers : List ℕ) → length numbers ≤ index → In number (drop index numbers) → ⊥
 none_left number zero [] past among = among

@@ -13,9 +13,9 @@ use journal_parts::{Begins, Claims, Member, ReadyGroup, Refusal, Register, Seat,
 use mc_types::NodeNo;
 use node_core::{JoinFault, StepGroup};
 use stable_store::GroupStore;
-use synod_acceptor::Packet;
 use std::alloc::Global;
 use std::sync::{Mutex, Wait};
+use synod_acceptor::Packet;
 
 /// Packets whose steps were joined, with their numbers; and the numbers of those whose steps save nothing: each of them is taken by itself.
 #[derive(Drop)]

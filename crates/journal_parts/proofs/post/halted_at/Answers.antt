@@ -1,6 +1,5 @@
-use Rattle.std.proofs.Common.{[], length-append, ◌≡◌, ◌+◌, ◌∷◌, ◌++◌, List, Some, is_some, drop, length, map, ap, sym, subst, ◌∙◌, arith, inl, refl}
+use Rattle.std.proofs.Common.{[], length-append, ◌+◌, ◌∷◌, List, is_some, drop, length, map, ap, sym, subst, arith, inl, refl}
 use Rattle.std.specs.Arc.{arc_value}
-use Rattle.std.specs.declared.sync.Arc.{Arc}
 use Rattle.std.proofs.lemmas.List.{length-map, length-take-le}
 use Rattle.mc_model.specs.synod.Lists.{In}
 use Rattle.mc_parts.proofs.Membership.{in_right}

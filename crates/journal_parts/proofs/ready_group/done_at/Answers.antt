@@ -1,6 +1,4 @@
-use Rattle.std.proofs.Common.{rules, ◌≡◌, Some, arith, length, map, refl, sym, ap, subst, ◌∙◌}
-use Rattle.std.specs.Prelude.{option_map}
-use Rattle.std.specs.Arc.{arc_value}
+use Rattle.std.proofs.Common.{rules, ◌≡◌, Some, arith, length, refl, sym, ap, subst, ◌∙◌}
 use Rattle.std.specs.List.{slice_get}
 use Rattle.std.proofs.lemmas.List.{length-map}
 use Rattle.std.proofs.lemmas.Option.{slice_get_read}
@@ -11,7 +9,6 @@ use Rattle.synod_acceptor.specs.Packets.{packet_of}
 use Rattle.synod_acceptor.specs.declared.packet.Packet.{Packet as Sent}
 use Rattle.node_core.specs.Keeping.{kept_of}
 use Rattle.node_core.specs.Steps.{outputs_of}
-use Rattle.node_entry.specs.declared.step.Step.{Step}
 use Rattle.journal_parts.specs.declared.done.Done.{Done}
 use Rattle.journal_parts.specs.Gathering.{IsGathered}
 use Rattle.journal_parts.proofs.Gathering.{gathered_so, same_at}

@@ -24,9 +24,9 @@ invariant_of-self g c =
     let sound = ap (λ (v : Membered _). v.post.astray) c.self.view_is ∙ c.requires.sound in
     let front = c.commit_all-taken.ensures.front in
     let at : (done : Done) → In done taken → node_at done.step ≡ old.node.kept.setup.node = λ done among.
-        gathered_nodes c.ready.inside.group.was c.ready.inside.group.packets dones done c.ready.invariant.0
-        (subst (λ (ds : List Done). In done ds) (sym front.1) (in_left done taken front.0 among))
-        ∙ ap (λ (k : Holding). k.setup.node) was in
+    gathered_nodes c.ready.inside.group.was c.ready.inside.group.packets dones done c.ready.invariant.0
+    (subst (λ (ds : List Done). In done ds) (sym front.1) (in_left done taken front.0 among))
+    ∙ ap (λ (k : Holding). k.setup.node) was in
     subst (λ (es : List Entry). IsMember g.S.StableStore.stored g.L.Begins.cluster g.L.Begins.kept new es) (sym c.push_each.ensures)
     (member_on g.S.StableStore.stored g.L.Begins.cluster g.L.Begins.kept old new (map entry_of c.self.inside.own.items) taken c.self.invariant sound at
     c.commit_all-taken.ensures.takes)
@@ -35,6 +35,6 @@ pub returns-clause-front : goal.returns-clause-front
 returns-clause-front g c = (
   drop c.len.result c.ready.inside.copies.items,
   ap (λ (r : Gathered). map entry_done r.dones) (sym c.ready.view_is) ∙ sym c.ready.invariant.1
-  ∙ sym (take-append-drop c.len.result c.ready.inside.copies.items)
-  ∙ ap (λ (es : List Entry). es ++ drop c.len.result c.ready.inside.copies.items) (sym c.truncate.ensures.items),
+      ∙ sym (take-append-drop c.len.result c.ready.inside.copies.items)
+      ∙ ap (λ (es : List Entry). es ++ drop c.len.result c.ready.inside.copies.items) (sym c.truncate.ensures.items),
 )

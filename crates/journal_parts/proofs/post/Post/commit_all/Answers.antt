@@ -1,8 +1,7 @@
-use Rattle.std.proofs.Common.{◌≡◌, ◌≢◌, ◌++◌, [], List, None, Some, Err, false, true, inl, inr, map, refl, sym, ap, subst, ◌∙◌}
+use Rattle.std.proofs.Common.{◌++◌, List, Err, inl, inr, map, refl, sym, ap, subst, ◌∙◌}
 use Rattle.std.specs.Arc.{arc_value}
 use Rattle.std.specs.declared.sync.Arc.{Arc}
 use Rattle.node_core.specs.Nodes.{Standing}
-use Rattle.node_core.specs.StepFault.{StepFault}
 use Rattle.journal_parts.specs.Gathering.{TakesSeveral}
 use Rattle.journal_parts.specs.Members.{posted}
 use Rattle.journal_parts.specs.Refusals.{refused_as}

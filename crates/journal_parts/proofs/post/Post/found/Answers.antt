@@ -1,4 +1,4 @@
-use Rattle.std.proofs.Common.{rules, ◌≡◌, ◌<◌, ◌++◌, [], ℕ, List, Some, length, map, refl, sym, ap, subst, ◌∙◌, arith}
+use Rattle.std.proofs.Common.{◌≡◌, ◌++◌, ℕ, List, Some, length, map, refl, sym, ap, subst, arith}
 use Rattle.std.specs.Arc.{arc_value}
 use Rattle.std.specs.declared.sync.Arc.{Arc}
 use Rattle.std.proofs.lemmas.List.{length-map}
@@ -17,9 +17,10 @@ halted_at-taken-requires-clause-place g c =
     omega (arith, fewer, count, same)
 
 pub halted_at-taken-requires-clause-deliver : goal.halted_at-taken-requires-clause-deliver
-halted_at-taken-requires-clause-deliver g c =
-    (c.args.self.now.node.kept.setup.node,
-    all_deliver c.args.self.now.node.kept c.args.self.now.node.waiting (map arc_value c.args.dones.items) c.requires.gathered)
+halted_at-taken-requires-clause-deliver g c = (
+  c.args.self.now.node.kept.setup.node,
+  all_deliver c.args.self.now.node.kept c.args.self.now.node.waiting (map arc_value c.args.dones.items) c.requires.gathered,
+)
 
 pub returns-in-Ok-clause-takes : goal.returns-in-Ok-clause-takes
 returns-in-Ok-clause-takes g c =

@@ -4,8 +4,6 @@ use Rattle.std.specs.declared.sync.Arc.{Arc}
 use Rattle.std.proofs.Math.Seq.{take-length}
 use Rattle.std.proofs.lemmas.List.{map-append}
 use Rattle.synod_acceptor.specs.declared.packet.Packet.{Packet}
-use Rattle.node_core.specs.Kept.{Kept as Holding}
-use Rattle.journal_laws.specs.Journals.{Entry}
 use Rattle.journal_parts.specs.declared.done.Done.{Done}
 use Rattle.journal_parts.specs.Gathering.{AllDeliver, AreGathered, AreNumbered, entry_done}
 use Rattle.journal_parts.proofs.Gathering.{all_deliver, gathered_more, numbered_more}

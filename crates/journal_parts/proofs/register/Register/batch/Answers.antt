@@ -1,5 +1,5 @@
-use Rattle.std.proofs.Common.{rules, ◌≡◌, ◌+◌, ℕ, [], refl, sym, subst, ◌∙◌, ap, length, arith}
-use Rattle.journal_parts.specs.Batches.{Covers, IsOneMore}
+use Rattle.std.proofs.Common.{sym, subst, ◌∙◌, ap, length, arith}
+use Rattle.journal_parts.specs.Batches.{Covers}
 use Rattle.journal_parts.specs.declared.batch.Batch.{Batch}
 use Rattle.journal_parts.proofs.Batches.{counts_more, covers_more}
 use Rattle.journal_parts.proofs.register.Register.batch.Goals.{else-loop-number-test, then-loop-number-test+in_default, then-loop-number-test+in-Some+in_ok-add+then-not-branch, then-loop-number-test+in-Some+in_ok-add+else-not-branch+else-number-number-end}
