@@ -70,8 +70,9 @@ fn carry<S: GroupStore, L: Begins, R: Wait + Eprint + Clock>(
         .shared
         .cluster
         .carry(shift.rt, seat, shift.node(), first, last);
-    tell_each(shift, seat, before)?;
+    let told = tell_each(shift, seat, before);
     let behind = first.saturating_add(came?);
+    told?;
     shift.station.next.store(behind, Ordering::SeqCst);
     for number in first..behind {
         shift.shared.house.pass(shift.station, number);
@@ -79,16 +80,17 @@ fn carry<S: GroupStore, L: Begins, R: Wait + Eprint + Clock>(
     Ok(behind > first)
 }
 
-/// What the steps gave out whose slips stand behind so many others goes out.
+/// What the steps gave out whose slips stand behind so many others goes out, each for itself. An `Err` is what the first of them met that met any.
 fn tell_each<S: GroupStore, L: Begins, R: Wait + Eprint + Clock>(
     shift: &Shift<'_, S, L, R>,
     seat: &Seat<L>,
     before: usize,
 ) -> Result<(), Trouble> {
+    let mut told = Ok(());
     for slip in seat.slips().iter().skip(before) {
-        tell(shift, slip)?;
+        told = told.and(tell(shift, slip));
     }
-    Ok(())
+    told
 }
 
 /// What the step of a packet gave out goes out.

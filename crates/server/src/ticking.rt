@@ -148,9 +148,7 @@ fn start_anew_if_low<S: GroupStore, L: Begins, R: Wait + Eprint + Clock>(
 }
 
 /// Waits until the rounds are through that the last tick began, as long as packets come. If the life is over before, they are waited for in the next part.
-fn wait_for_rounds<S: GroupStore, L: Begins, R: Wait + Eprint + Clock>(
-    shift: &Shift<'_, S, L, R>,
-) {
+fn wait_for_rounds<S: GroupStore, L: Begins, R: Wait + Eprint + Clock>(shift: &Shift<'_, S, L, R>) {
     let house = &shift.shared.house;
     let station = shift.station;
     let mut told = Mark::now(shift.rt);
